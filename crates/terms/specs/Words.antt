@@ -1,0 +1,36 @@
+-- What the words of the trade say of a kind of service and of a record's state.
+use mathlib.Core.Bool.{Bool, true, false}
+use Rattle.terms.specs.declared.words.Kind.{Kind}
+use Rattle.terms.specs.declared.words.Kind.the-variants.{PointToPoint, Network}
+use Rattle.terms.specs.declared.words.State.{State}
+use Rattle.terms.specs.declared.words.State.the-variants.{Confirmed, Accepted, Offered, Competing, Challenged, Gone}
+
+abbrev pub is-network : Kind → Bool
+is-network PointToPoint = false
+is-network Network = true
+
+-- accepted and offered records are pending: their customers have not confirmed them yet
+abbrev pub is-pending : State → Bool
+is-pending Confirmed = false
+is-pending Accepted = true
+is-pending Offered = true
+is-pending Competing = false
+is-pending Challenged = false
+is-pending Gone = false
+
+abbrev pub is-confirmed : State → Bool
+is-confirmed Confirmed = true
+is-confirmed Accepted = false
+is-confirmed Offered = false
+is-confirmed Competing = false
+is-confirmed Challenged = false
+is-confirmed Gone = false
+
+-- a record lives until it is gone, and then gives its place back
+abbrev pub is-living : State → Bool
+is-living Confirmed = true
+is-living Accepted = true
+is-living Offered = true
+is-living Competing = true
+is-living Challenged = true
+is-living Gone = false
