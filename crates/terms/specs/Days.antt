@@ -1,7 +1,7 @@
 -- The posted days, and the minutes at which days begin.
 use mathlib.Core.Bool.{Bool, true, false, cond}
 use mathlib.Core.List.{List}
-use Prim.Native.Nat.{ℕ, _*_}
+use Prim.Native.Nat.{ℕ, _*_, _/_, _%_}
 use lib.Dec.{ltb}
 use lib.ListN.{length, getD}
 use Rattle.std.specs.declared.option.Option.{Option}
@@ -20,6 +20,13 @@ days-of p = record { amounts = p .amounts .now; preschedule = p .preschedule .no
 -- a day has 1,440 minutes, and day 0 begins at minute 0
 abbrev pub first-minute : ℕ → ℕ
 first-minute day = 1440 * day
+
+-- the day that a minute lies in, and the minute's place in it
+abbrev pub day-of : ℕ → ℕ
+day-of minute = minute / 1440
+
+abbrev pub minute-of-day : ℕ → ℕ
+minute-of-day minute = minute % 1440
 
 -- the minute at which the preschedule day of a day begins; none for a day that is not posted
 abbrev pub preschedule-minute : Days → ℕ → Option ℕ

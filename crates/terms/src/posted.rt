@@ -2,9 +2,9 @@
 ghost use mathlib.Core.Path.{_≡_};
 ghost use Prim.Native.Nat.{_^_, _<_};
 ghost use Rattle.std.specs.Options.{Cases};
-ghost use Rattle.terms.specs.Days.{first-minute, preschedule-minute, days-of};
+ghost use Rattle.terms.specs.Days.{first-minute, day-of, minute-of-day, preschedule-minute, days-of};
 
-pub const MINUTES_A_DAY: u64 = 1_440;
+pub const MINUTES_A_DAY: u32 = 1_440;
 
 // The MW posted on each day from day 0 on, and each day's preschedule day.
 #[derive(Clone, Copy)]
@@ -17,7 +17,21 @@ pub struct Posted<'a> {
 pub fn first_minute(day: u32) -> u64
     ensures { λ r. ⌜ r ≡ first-minute day ⌝ }
 {
-    MINUTES_A_DAY * day as u64
+    MINUTES_A_DAY as u64 * day as u64
+}
+
+// The day that a minute lies in.
+pub fn day_of(minute: u32) -> u32
+    ensures { λ r. ⌜ r ≡ day-of minute ⌝ }
+{
+    minute / MINUTES_A_DAY
+}
+
+// A minute's place in its day.
+pub fn minute_of_day(minute: u32) -> u32
+    ensures { λ r. ⌜ r ≡ minute-of-day minute ⌝ }
+{
+    minute % MINUTES_A_DAY
 }
 
 impl Posted<'_> {

@@ -1,0 +1,4 @@
+pub mod Rules
+pub mod Raised
+pub mod Laws
+pub mod Turn

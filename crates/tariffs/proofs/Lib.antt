@@ -1,0 +1,3 @@
+pub mod FirmLaws
+pub mod NonFirmLaws
+pub mod BidLaws

@@ -1,0 +1,5 @@
+pub mod Minutes
+pub mod Firm
+pub mod NonFirm
+pub mod Bid
+pub mod Edges
