@@ -2,3 +2,4 @@ pub mod Rules
 pub mod Raised
 pub mod Laws
 pub mod Turn
+pub mod Minutes

@@ -1,4 +1,6 @@
 // The rule sheet: the questions that a book asks of a tariff, and what the answers owe.
+pub mod minutes;
+
 ghost use mathlib.Core.Path.{_≡_};
 ghost use Rattle.sheets.specs.Laws.{Lawful};
 ghost use Rattle.sheets.specs.Rules.{Rules};

@@ -1,3 +1,0 @@
-pub mod FirmLaws
-pub mod NonFirmLaws
-pub mod BidLaws

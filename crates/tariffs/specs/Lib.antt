@@ -1,5 +1,0 @@
-pub mod Minutes
-pub mod Firm
-pub mod NonFirm
-pub mod Bid
-pub mod Edges
