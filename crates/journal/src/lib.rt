@@ -1,0 +1,2 @@
+// The journal: its lines, and what each kind of line does.
+pub mod line;
