@@ -5,6 +5,7 @@ use mathlib.Core.Bool.{Bool, true, false, _&&_, cond}
 use Prim.Native.Nat.{ℕ, zero, suc, _+_, _-_, _≤_, _<_}
 use lib.Dec.{eqb}
 use lib.ListN.{take}
+use Rattle.std.specs.shelf.Lists.{All}
 use Rattle.journal.specs.declared.line.Line.{Line}
 use Rattle.journal.specs.declared.line.LineKind.{LineKind}
 use Rattle.journal.specs.declared.line.LineKind.the-variants.{Posted, Granted, Superseded, Recalled, SetAside, Lost, Kept, Extended, Ceded, Released, Flown}
@@ -117,3 +118,11 @@ aside-below n ls day = sum-below n (λ a. sum-below n (λ b. balance ls (aside a
 -- on a day the accounts of AREFs below n, free and flown add up to what was posted
 abbrev pub Adds-up : ℕ → List Line → ℕ → Type 0
 Adds-up n ls day = balance ls free day + held-below n ls day + aside-below n ls day + balance ls flown day ≡ brought ls day
+
+-- the lines name only AREFs below n
+abbrev pub Names-below : ℕ → List Line → Type 0
+Names-below n ls = All (λ l. (l .a < n) × (l .b < n)) ls
+
+-- of lines after none of which an account is below zero, no MW is lost
+abbrev pub None-lost : Type 0
+None-lost = (n day : ℕ) (ls : List Line) → Never-below-zero ls → Names-below n ls → Adds-up n ls day
