@@ -1,0 +1,4 @@
+// The memory of a book, lent by its owner: posted days, free amounts, places for records, journal lines.
+pub mod memory;
+pub mod opening;
+pub mod record;

@@ -1,0 +1,3 @@
+pub mod View
+pub mod Keeps
+pub mod Sums

@@ -1,0 +1,2 @@
+// What a book is and keeps, as definitions, and what follows from them for every book.
+pub mod sums;
