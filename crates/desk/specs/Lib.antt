@@ -1,3 +1,4 @@
 pub mod Records
 pub mod Opening
 pub mod Desks
+pub mod Soundness

@@ -5,8 +5,8 @@ use mathlib.Core.List.{List}
 use Prim.Native.Nat.{ℕ, suc, _+_, _≤_, _<_}
 use lib.ListN.{length}
 use Rattle.std.specs.shelf.Lists.{All}
-use Rattle.terms.specs.declared.words.State.the-variants.{Challenged, Competing}
 use Rattle.terms.specs.Days.{Days}
+use Rattle.terms.specs.Words.{is-challenged, is-competing}
 use Rattle.journal.specs.Accounts.{held, aside, balance, brought, Never-below-zero, Names-below}
 use Rattle.law.specs.View.{View, Entry, aref-of, start-of, length-of, living, find, count, posted-on}
 
@@ -35,9 +35,9 @@ pub record Kept (v : View) : Type 0 where
   pub holders : (a day : ℕ) → 0 < balance (v .lines) (held a) day → In-term (find a (v .places)) day
   -- what is set aside of a for b is so in both terms, while a is challenged by b and b is competing
   pub challenged : (a b day : ℕ) → 0 < balance (v .lines) (aside a b) day →
-    In-term (find a (v .places)) day × (find a (v .places) .standing .state ≡ Challenged) × (find a (v .places) .against ≡ b)
+    In-term (find a (v .places)) day × (is-challenged (find a (v .places) .standing .state) ≡ true) × (find a (v .places) .against ≡ b)
   pub competing : (a b day : ℕ) → 0 < balance (v .lines) (aside a b) day →
-    In-term (find b (v .places)) day × (find b (v .places) .standing .state ≡ Competing)
+    In-term (find b (v .places)) day × (is-competing (find b (v .places) .standing .state) ≡ true)
   -- living records have different AREFs
   pub once : (a : ℕ) → count a (v .places) ≤ 1
   pub terms : All (Termed (v .days)) (v .places)

@@ -34,3 +34,21 @@ is-living Offered = true
 is-living Competing = true
 is-living Challenged = true
 is-living Gone = false
+
+-- a defender whose match is open
+abbrev pub is-challenged : State → Bool
+is-challenged Confirmed = false
+is-challenged Accepted = false
+is-challenged Offered = false
+is-challenged Competing = false
+is-challenged Challenged = true
+is-challenged Gone = false
+
+-- a challenger whose matches are open
+abbrev pub is-competing : State → Bool
+is-competing Confirmed = false
+is-competing Accepted = false
+is-competing Offered = false
+is-competing Competing = true
+is-competing Challenged = false
+is-competing Gone = false
