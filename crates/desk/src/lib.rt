@@ -2,3 +2,4 @@
 pub mod memory;
 pub mod opening;
 pub mod record;
+pub mod sums;
