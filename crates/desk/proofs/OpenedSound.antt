@@ -4,11 +4,15 @@ use mathlib.Core.Bool.{Bool, true, false, cond}
 use mathlib.Core.List.{List, [], _∷_, _++_, map}
 use Prim.Native.Nat.{ℕ, zero, suc, _+_, _≤_, _<_}
 use native.Mathlib.Omega.{arith}
+use lib.Dec.{leb, eqb}
 use lib.LanesLaws.{map-replicate}
 use lib.ListN.{length, getD, take, replicate}
 use Rattle.std.specs.shelf.Lists.{All}
 use Rattle.std.proofs.shelf.Lists.{take-append-le, take-all, getD-replicate, length-append}
-use Rattle.std.proofs.shelf.Tests.{false≢true}
+use Rattle.std.proofs.shelf.Tests.{false≢true, and-parts, leb-true, eqb-true}
+use Rattle.std.specs.declared.option.Option.{Option}
+use Rattle.std.specs.declared.option.Option.the-variants.{Some, None}
+use Rattle.terms.specs.declared.refusal.Refusal.{Refusal}
 use Rattle.terms.specs.Days.{Days}
 use Rattle.journal.specs.declared.line.Line.{Line}
 use Rattle.journal.specs.Accounts.{Account, free, held, aside, sort, balance}
@@ -16,9 +20,10 @@ use Rattle.law.specs.View.{View, Entry, nobody, living, posted-on}
 use Rattle.law.specs.Keeps.{Kept, Termed, Accepted-by}
 use Rattle.law.proofs.Finds.{count-nobody}
 use Rattle.desk.specs.declared.memory.Desk.{Desk}
+use Rattle.desk.specs.declared.memory.Memory.{Memory}
 use Rattle.desk.specs.declared.record.Record.{Record}
-use Rattle.desk.specs.Desks.{view, New}
-use Rattle.desk.specs.Opening.{postings, opened}
+use Rattle.desk.specs.Desks.{view, days-lent, refusal-over, New, Opened-over}
+use Rattle.desk.specs.Opening.{postings, postings-fit, unless, opening-refusal, opened}
 use Rattle.desk.specs.Records.{entry-of, vacant}
 use Rattle.desk.specs.Soundness.{Shows, Sound}
 use Rattle.desk.proofs.Postings.{postings-only, posting-solvent, posting-names, postings-bring, postings-free, postings-elsewhere}
@@ -79,3 +84,33 @@ module _ (d : Desk) (days : Days) (places : ℕ) (rest : List Line) (fit : Fit d
       each-day = ap length (N .free) ∙ ap (λ x. length (x .amounts)) (sym (N .days));
       frees = λ day h. ap (λ xs. getD xs day 0) (N .free) ∙ (sym (postings-free (days .amounts) day) ∙ ap (λ ls. balance ls free day) (sym lines-are));
       records = subst (All (Shows (view d .lines))) (sym (N .places)) (all-alike (Shows (view d .lines)) places vacant (vacant-shows (view d .lines))) }
+
+goes-on : (passed : Bool) (refusal : Refusal) (rest : Option Refusal) → unless passed refusal rest ≡ None → (passed ≡ true) × (rest ≡ None)
+goes-on true refusal rest h = (refl, h)
+goes-on false refusal rest h = absurd (let z : _≡_ {A = ℕ} 0 1 = cc in omega arith)
+
+small-postings : (start : ℕ) (amounts preschedule : List ℕ) → postings-fit start amounts preschedule ≡ true → (day : ℕ) → getD amounts day 0 ≤ 20000
+small-postings start [] preschedule h day = omega arith
+small-postings start (mw ∷ amounts) preschedule h zero = leb-true mw 20000 (and-parts _ _ (and-parts _ _ h .0) .0)
+small-postings start (mw ∷ amounts) preschedule h (suc day) = small-postings (suc start) amounts preschedule (and-parts _ _ h .1) day
+
+-- what the tests of an opening pass is fit to open a book over
+pub fit-if-passed : (days : Days) (frees places room : ℕ) → opening-refusal days frees places room ≡ None → Fit days
+fit-if-passed days frees places room h =
+    let first = goes-on _ _ _ h in
+    let second = goes-on _ _ _ (first .1) in
+    let d = and-parts (leb 1 (length (days .amounts))) _ (first .0) in
+    let e = and-parts (leb (length (days .amounts)) 400) _ (d .1) in
+    let f = and-parts (eqb (length (days .preschedule)) (length (days .amounts))) _ (e .1) in
+    record {
+      few = leb-true (length (days .amounts)) 400 (e .0);
+      alike = eqb-true _ _ (f .0);
+      small = small-postings 0 (days .amounts) (days .preschedule) (second .0) }
+
+pub fit-none : Fit (record { amounts = []; preschedule = [] })
+fit-none = record { few = omega arith; alike = refl; small = λ day. omega arith }
+
+-- whatever was lent, the desk opened over it is sound
+pub sound-opened : (m : Memory) (d : Desk) (r : Option Refusal) → refusal-over m ≡ r → Opened-over m d r → Sound d
+sound-opened m d None e N = sound-new d (days-lent m) (length (m .places .now)) _ (fit-if-passed (days-lent m) (length (m .free .now)) (length (m .places .now)) (length (m .lines .now)) e) N
+sound-opened m d (Some refusal) e N = sound-new d (record { amounts = []; preschedule = [] }) 0 [] fit-none N
