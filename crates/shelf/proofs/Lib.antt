@@ -1,0 +1,3 @@
+-- Lemmas on shelves.
+mod Slots
+mod Lines
