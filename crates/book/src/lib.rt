@@ -7,6 +7,7 @@ ghost use Rattle.law.specs.View.{posted-on};
 use desk::memory::Desk;
 use desk::memory::Memory;
 use desk::sums::Sums;
+use journal::line::Line;
 use sheets::RuleSheet;
 use terms::refusal::Refusal;
 
@@ -27,6 +28,13 @@ impl<'a, S: RuleSheet> Book<'a, S> {
     {
         let desk = memory.open();
         Book { sheet, desk }
+    }
+
+    // The journal so far, line for line.
+    pub fn journal(&self) -> &[Line]
+        ensures { λ r. ⌜ now r ≡ view (now (self .entry) .desk) .lines ⌝ }
+    {
+        self.desk.journal()
     }
 
     // The four sums of a posted day, equal to the journal's accounts; they come to what was posted.

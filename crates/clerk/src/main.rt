@@ -1,9 +1,16 @@
-// The clerk tells who would give way to a request, on one week of a line with firm service.
+// The clerk tells the books of two owners: the first is opened, and in the second's week somebody has to give way.
+mod opening;
 mod telling;
 mod week;
 
 use std::error::AnyError;
 
+fn run(rt: &LibcRuntime) -> Result<(), AnyError> {
+    opening::tell(rt)?;
+    println!(rt, "")?;
+    week::tell(rt)
+}
+
 fn main(rt: LibcRuntime) -> Result<(), AnyError> {
-    rt.report(week::tell(&rt))
+    rt.report(run(&rt))
 }

@@ -1,4 +1,4 @@
-// The week of an owner whose line is full: a confirmed reservation and a pending request hold it, and a longer
+// The second owner's week, when the line is full: a confirmed reservation and a pending request hold it, and a longer
 // request arrives.
 use findings::find;
 use findings::turn_among;
@@ -92,7 +92,7 @@ fn tell_turns(rt: &LibcRuntime, challenger: &Request, records: &[Standing]) -> R
 
 // Tells the week from beginning to end.
 pub fn tell(rt: &LibcRuntime) -> Result<(), AnyError> {
-    println!(rt, "A line of 150 MW with firm service, full on days 7 to 9.")?;
+    println!(rt, "The second owner's week: a line of 150 MW with firm service, full on days 7 to 9.")?;
     println!(rt, "Requests as they come:")?;
     let holder = taken_in(rt, daily_form(101, 3, 100, 0))?;
     let asker = taken_in(rt, daily_form(102, 3, 50, 0))?;
