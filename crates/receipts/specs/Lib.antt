@@ -1,0 +1,4 @@
+-- What receipts and notices are, as the contracts cite it.
+pub mod Output
+pub mod Notices
+pub mod Receipts
