@@ -66,4 +66,5 @@ bid-lawful = record {
   right-not-network = λ c d _ _ right. asked c d right .1;
   raised-stands = λ c d _ _. raised-stands-in-bid c d;
   answer-later = λ c d minute days _ _ _ in-time. grind (arith, tells);
-  confirm-later = λ d _. grind (arith, tells) }
+  confirm-later = λ d _. grind (arith, tells);
+}

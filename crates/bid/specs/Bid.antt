@@ -74,4 +74,5 @@ bid = record {
   in-time = λ c minute days. in-the-morning minute && not-past (bid-until days (c .start)) minute;
   is-open = λ c d minute days. not-past (bid-open-until d days) minute;
   answer-by = λ c d minute days. bid-answer-by c minute;
-  confirm-time = λ d. bid-confirm-time (d .request .product) }
+  confirm-time = λ d. bid-confirm-time (d .request .product);
+}

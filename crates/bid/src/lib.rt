@@ -2,8 +2,8 @@
 ghost use mathlib.Core.Path.{_≡_};
 ghost use Rattle.bid.specs.Bid.{bid, bid-until, bid-open-until};
 ghost use Rattle.terms.specs.Days.{days-of};
-use sheets::minutes::not_past;
 use sheets::RuleSheet;
+use sheets::minutes::not_past;
 use terms::posted::Posted;
 use terms::posted::day_of;
 use terms::posted::first_minute;
@@ -30,7 +30,10 @@ impl Bid {
         ensures { λ r. ⌜ r ≡ bid-open-until (now (defender .entry)) (days-of (now (posted .entry))) ⌝ }
     {
         match defender.state {
-            State::Confirmed | State::Accepted | State::Offered => self.counts_until(defender.request.start, posted),
+            State::Confirmed | State::Accepted | State::Offered => self.counts_until(
+                defender.request.start,
+                posted,
+            ),
             State::Competing | State::Challenged | State::Gone => None,
         }
     }
@@ -86,16 +89,34 @@ pub impl RuleSheet for Bid as BidSheet {
 
     fn in_time(&self, challenger: &Request, minute: u32, posted: &Posted) -> bool {
         let clock = minute_of_day(minute);
-        clock >= 360 && clock <= 540 && not_past(self.counts_until(challenger.start, posted), minute)
+        clock >= 360
+            && clock <= 540
+            && not_past(self.counts_until(challenger.start, posted), minute)
     }
 
-    fn is_open(&self, _challenger: &Request, defender: &Standing, minute: u32, posted: &Posted) -> bool {
+    fn is_open(
+        &self,
+        _challenger: &Request,
+        defender: &Standing,
+        minute: u32,
+        posted: &Posted,
+    ) -> bool {
         not_past(self.open_until(defender, posted), minute)
     }
 
-    fn answer_by(&self, challenger: &Request, _defender: &Standing, minute: u32, _posted: &Posted) -> u64 {
+    fn answer_by(
+        &self,
+        challenger: &Request,
+        _defender: &Standing,
+        minute: u32,
+        _posted: &Posted,
+    ) -> u64 {
         let today = day_of(minute);
-        let clock = if challenger.start == today + 1 { 600 } else { 840 };
+        let clock = if challenger.start == today + 1 {
+            600
+        } else {
+            840
+        };
         first_minute(today) + clock
     }
 

@@ -8,12 +8,29 @@ use journal::line::Line;
 use journal::line::LineKind;
 use std::error::AnyError;
 
-const BLANK: Line = Line { minute: 0, kind: LineKind::Posted, a: 0, b: 0, day: 0, mw: 0 };
+const BLANK: Line = Line {
+    minute: 0,
+    kind: LineKind::Posted,
+    a: 0,
+    b: 0,
+    day: 0,
+    mw: 0,
+};
 
 fn tell_line(rt: &LibcRuntime, line: &Line) -> Result<(), AnyError> {
-    let Line { minute, kind, a, b, day, mw } = *line;
+    let Line {
+        minute,
+        kind,
+        a,
+        b,
+        day,
+        mw,
+    } = *line;
     let number = kind.number();
-    println!(rt, "  {minute:>6}  {number:>4}  {a:>4}  {b:>4}  {day:>3}  {mw:>5}")?;
+    println!(
+        rt,
+        "  {minute:>6}  {number:>4}  {a:>4}  {b:>4}  {day:>3}  {mw:>5}"
+    )?;
     Ok(())
 }
 
@@ -29,7 +46,11 @@ pub fn tell_journal(rt: &LibcRuntime, lines: &[Line]) -> Result<(), AnyError> {
 fn tell_day(rt: &LibcRuntime, book: &Book<Firm>, day: u32) -> Result<(), AnyError> {
     match book.sums(day) {
         Ok(sums) => {
-            println!(rt, "  {day:>3}  {:>5}  {:>5}  {:>5}  {:>5}", sums.free, sums.held, sums.aside, sums.flown)?;
+            println!(
+                rt,
+                "  {day:>3}  {:>5}  {:>5}  {:>5}  {:>5}",
+                sums.free, sums.held, sums.aside, sums.flown
+            )?;
         }
         Err(refusal) => {
             let number = refusal.number();
@@ -49,7 +70,14 @@ pub fn tell_days(rt: &LibcRuntime, book: &Book<Firm>, last: u32) -> Result<(), A
 }
 
 // Tries to open a book of alike days over so many places and lines, and tells the number of the refusal.
-fn try_opening(rt: &LibcRuntime, what: &str, days: usize, mw: u32, places: usize, lines: usize) -> Result<(), AnyError> {
+fn try_opening(
+    rt: &LibcRuntime,
+    what: &str,
+    days: usize,
+    mw: u32,
+    places: usize,
+    lines: usize,
+) -> Result<(), AnyError> {
     let amounts = [mw; 6];
     let preschedule = [0; 6];
     let mut free = [0; 6];
@@ -87,7 +115,13 @@ pub fn tell(rt: &LibcRuntime) -> Result<(), AnyError> {
     let mut free = [0; 6];
     let mut places = [Record::vacant(); 4];
     let mut lines = [BLANK; 12];
-    let memory = Memory { amounts: &amounts, preschedule: &preschedule, free: &mut free, places: &mut places, lines: &mut lines };
+    let memory = Memory {
+        amounts: &amounts,
+        preschedule: &preschedule,
+        free: &mut free,
+        places: &mut places,
+        lines: &mut lines,
+    };
     let book = Book::open(Firm, memory);
     println!(rt, "The first owner's book, newly opened. Its journal:")?;
     tell_journal(rt, book.journal())?;

@@ -1,15 +1,15 @@
 // The second owner's week, when the line is full: a confirmed reservation and a pending request hold it, and a longer
 // request arrives.
-use findings::find;
-use findings::turn_among;
 use crate::telling::Until;
 use crate::telling::UntilDisplay;
 use crate::telling::product_word;
 use crate::telling::state_word;
 use crate::telling::yes_or_no;
-use std::error::AnyError;
+use findings::find;
+use findings::turn_among;
 use firm::Firm;
 use firm::FirmSheet;
+use std::error::AnyError;
 use terms::posted::Posted;
 use terms::request::Request;
 use terms::request::RequestForm;
@@ -17,12 +17,23 @@ use terms::request::Standing;
 use terms::words::State;
 
 const NOW: u32 = 1_500;
+
 const AMOUNTS: [u32; 14] = [150; 14];
+
 const PRESCHEDULE: [u32; 14] = [0, 0, 1, 2, 3, 4, 5, 6, 7, 8, 9, 10, 11, 12];
 
 // A form for daily point-to-point service from day 7 on.
 fn daily_form(aref: u32, length: u32, mw: u32, preconfirmed: u32) -> RequestForm {
-    RequestForm { aref, kind: 1, product: 1, start: 7, length, mw, preconfirmed, price: 5_000 }
+    RequestForm {
+        aref,
+        kind: 1,
+        product: 1,
+        start: 7,
+        length,
+        mw,
+        preconfirmed,
+        price: 5_000,
+    }
 }
 
 // Checks a form, and tells how that went.
@@ -31,7 +42,10 @@ fn taken_in(rt: &LibcRuntime, form: RequestForm) -> Result<Option<Request>, AnyE
     let length = form.length;
     let mw = form.mw;
     let mark = yes_or_no(form.preconfirmed == 1);
-    print!(rt, "  AREF {aref}: {mw} MW for {length} days from day 7, preconfirmed {mark}: ")?;
+    print!(
+        rt,
+        "  AREF {aref}: {mw} MW for {length} days from day 7, preconfirmed {mark}: "
+    )?;
     match form.check() {
         Ok(checked) => {
             println!(rt, "checked")?;
@@ -45,7 +59,13 @@ fn taken_in(rt: &LibcRuntime, form: RequestForm) -> Result<Option<Request>, AnyE
     }
 }
 
-fn tell_record(rt: &LibcRuntime, challenger: &Request, one: &Standing, records: &[Standing], posted: &Posted) -> Result<(), AnyError> {
+fn tell_record(
+    rt: &LibcRuntime,
+    challenger: &Request,
+    one: &Standing,
+    records: &[Standing],
+    posted: &Posted,
+) -> Result<(), AnyError> {
     let finding = find(challenger, one, NOW, posted);
     let turn = turn_among(&Firm, one, records);
     let aref = one.request.aref;
@@ -54,7 +74,10 @@ fn tell_record(rt: &LibcRuntime, challenger: &Request, one: &Standing, records: 
     let open = Until(finding.open_until);
     let may_match = yes_or_no(finding.match_until.is_some());
     let matched = Until(finding.match_until);
-    println!(rt, "  {turn:>4}  {aref:>4}  {state:<10}  {outranked:<9}  {open}  {may_match:<9}  {matched}")?;
+    println!(
+        rt,
+        "  {turn:>4}  {aref:>4}  {state:<10}  {outranked:<9}  {open}  {may_match:<9}  {matched}"
+    )?;
     Ok(())
 }
 
@@ -63,23 +86,45 @@ fn tell_first(rt: &LibcRuntime, records: &[Standing]) -> Result<(), AnyError> {
     for one in records {
         if turn_among(&Firm, one, records) == 1 {
             let state = state_word(one.state);
-            let how = if one.state.is_pending() { "whole and without a match" } else { "what is short" };
+            let how = if one.state.is_pending() {
+                "whole and without a match"
+            } else {
+                "what is short"
+            };
             println!(rt, "")?;
-            println!(rt, "AREF {}, {state}, gives first, {how}.", one.request.aref)?;
+            println!(
+                rt,
+                "AREF {}, {state}, gives first, {how}.",
+                one.request.aref
+            )?;
         }
     }
     Ok(())
 }
 
-fn tell_turns(rt: &LibcRuntime, challenger: &Request, records: &[Standing]) -> Result<(), AnyError> {
-    let posted = Posted { amounts: &AMOUNTS, preschedule: &PRESCHEDULE };
+fn tell_turns(
+    rt: &LibcRuntime,
+    challenger: &Request,
+    records: &[Standing],
+) -> Result<(), AnyError> {
+    let posted = Posted {
+        amounts: &AMOUNTS,
+        preschedule: &PRESCHEDULE,
+    };
     let in_time = Until(Firm.in_time_until(challenger, &posted));
     let product = product_word(challenger.product);
     println!(rt, "")?;
-    println!(rt, "AREF {} challenges at minute {NOW}; with {product} service it is in time until {in_time}.", challenger.aref)?;
+    println!(
+        rt,
+        "AREF {} challenges at minute {NOW}; with {product} service it is in time until {in_time}.",
+        challenger.aref
+    )?;
     println!(rt, "Who gives way to it, in turn:")?;
     println!(rt, "")?;
-    println!(rt, "  turn  AREF  state       outranked  open until          may match  until")?;
+    println!(
+        rt,
+        "  turn  AREF  state       outranked  open until          may match  until"
+    )?;
     for turn in 1..=records.len() {
         for one in records {
             if turn_among(&Firm, one, records) == turn {
@@ -92,7 +137,10 @@ fn tell_turns(rt: &LibcRuntime, challenger: &Request, records: &[Standing]) -> R
 
 // Tells the week from beginning to end.
 pub fn tell(rt: &LibcRuntime) -> Result<(), AnyError> {
-    println!(rt, "The second owner's week: a line of 150 MW with firm service, full on days 7 to 9.")?;
+    println!(
+        rt,
+        "The second owner's week: a line of 150 MW with firm service, full on days 7 to 9."
+    )?;
     println!(rt, "Requests as they come:")?;
     let holder = taken_in(rt, daily_form(101, 3, 100, 0))?;
     let asker = taken_in(rt, daily_form(102, 3, 50, 0))?;
@@ -101,8 +149,16 @@ pub fn tell(rt: &LibcRuntime) -> Result<(), AnyError> {
     let (Some(holder), Some(asker), Some(challenger)) = (holder, asker, challenger) else {
         return Err("a request of the week was refused".into());
     };
-    let confirmed = Standing { request: holder, state: State::Confirmed, queued: 600 };
-    let pending = Standing { request: asker, state: State::Accepted, queued: 1_440 };
+    let confirmed = Standing {
+        request: holder,
+        state: State::Confirmed,
+        queued: 600,
+    };
+    let pending = Standing {
+        request: asker,
+        state: State::Accepted,
+        queued: 1_440,
+    };
     let records = [confirmed, pending];
     tell_turns(rt, &challenger, &records)?;
     Ok(())

@@ -48,23 +48,27 @@ none-there amounts x day h p = let z = postings-elsewhere amounts x day h in ome
 
 pub kept-opened : (days : Days) (places room : ℕ) → Fit days → Kept (opened days places room)
 kept-opened days places room f = record {
-    solvent = posting-solvent (postings 0 (days .amounts)) (postings-only 0 (days .amounts));
-    named = posting-names (postings 0 (days .amounts)) (postings-only 0 (days .amounts));
-    posted = postings-bring (days .amounts);
-    amounts = f .small;
-    days = f .few;
-    prescheduled = f .alike;
-    holders = λ a day p. absurd (none-there (days .amounts) (held a) day (omega arith) p);
-    challenged = λ a b day p. absurd (none-there (days .amounts) (aside a b) day (omega arith) p);
-    competing = λ a b day p. absurd (none-there (days .amounts) (aside a b) day (omega arith) p);
-    once = λ a. omega (arith, count-nobody a places);
-    terms = all-alike (Termed days) places nobody (omega arith, omega arith, λ l. absurd (false≢true l));
-    accepted = all-alike (Accepted-by 0) places nobody (omega arith, omega arith) }
+  solvent = posting-solvent (postings 0 (days .amounts)) (postings-only 0 (days .amounts));
+  named = posting-names (postings 0 (days .amounts)) (postings-only 0 (days .amounts));
+  posted = postings-bring (days .amounts);
+  amounts = f .small;
+  days = f .few;
+  prescheduled = f .alike;
+  holders = λ a day p. absurd (none-there (days .amounts) (held a) day (omega arith) p);
+  challenged = λ a b day p. absurd (none-there (days .amounts) (aside a b) day (omega arith) p);
+  competing = λ a b day p. absurd (none-there (days .amounts) (aside a b) day (omega arith) p);
+  once = λ a. omega (arith, count-nobody a places);
+  terms = all-alike (Termed days) places nobody (omega arith, omega arith, λ l. absurd (false≢true l));
+  accepted = all-alike (Accepted-by 0) places nobody (omega arith, omega arith);
+}
 
 vacant-shows : (ls : List Line) → Shows ls vacant
 vacant-shows ls = record {
-    held-days = refl; aside-days = refl;
-    holds = λ j h. getD-replicate 31 j 0 0 h; sets-aside = λ j h. getD-replicate 31 j 0 0 h }
+  held-days = refl;
+  aside-days = refl;
+  holds = λ j h. getD-replicate 31 j 0 0 h;
+  sets-aside = λ j h. getD-replicate 31 j 0 0 h;
+}
 
 module _ (d : Desk) (days : Days) (places : ℕ) (rest : List Line) (fit : Fit days)
     (N : New d days (days .amounts) (replicate places vacant) (postings 0 (days .amounts) ++ rest) (length (postings 0 (days .amounts)))) where
@@ -79,11 +83,12 @@ module _ (d : Desk) (days : Days) (places : ℕ) (rest : List Line) (fit : Fit d
 
   pub sound-new : Sound d
   sound-new = record {
-      kept = subst Kept (sym view-is) (kept-opened days places (length (d .lines .now)) fit);
-      written = rw (N .used, N .lines) (simp length-append (omega arith));
-      each-day = ap length (N .free) ∙ ap (λ x. length (x .amounts)) (sym (N .days));
-      frees = λ day h. ap (λ xs. getD xs day 0) (N .free) ∙ (sym (postings-free (days .amounts) day) ∙ ap (λ ls. balance ls free day) (sym lines-are));
-      records = subst (All (Shows (view d .lines))) (sym (N .places)) (all-alike (Shows (view d .lines)) places vacant (vacant-shows (view d .lines))) }
+    kept = subst Kept (sym view-is) (kept-opened days places (length (d .lines .now)) fit);
+    written = rw (N .used, N .lines) (simp length-append (omega arith));
+    each-day = ap length (N .free) ∙ ap (λ x. length (x .amounts)) (sym (N .days));
+    frees = λ day h. ap (λ xs. getD xs day 0) (N .free) ∙ (sym (postings-free (days .amounts) day) ∙ ap (λ ls. balance ls free day) (sym lines-are));
+    records = subst (All (Shows (view d .lines))) (sym (N .places)) (all-alike (Shows (view d .lines)) places vacant (vacant-shows (view d .lines)));
+  }
 
 goes-on : (passed : Bool) (refusal : Refusal) (rest : Option Refusal) → unless passed refusal rest ≡ None → (passed ≡ true) × (rest ≡ None)
 goes-on true refusal rest h = (refl, h)
@@ -105,7 +110,8 @@ fit-if-passed days frees places room h =
     record {
       few = leb-true (length (days .amounts)) 400 (e .0);
       alike = eqb-true _ _ (f .0);
-      small = small-postings 0 (days .amounts) (days .preschedule) (second .0) }
+      small = small-postings 0 (days .amounts) (days .preschedule) (second .0);
+    }
 
 pub fit-none : Fit (record { amounts = []; preschedule = [] })
 fit-none = record { few = omega arith; alike = refl; small = λ day. omega arith }

@@ -78,9 +78,11 @@ one-posting start mw day rest = go (cases-lt 0 mw)
     always : (b : Bool) (m : ℕ) → cond (b && true) m 0 ≡ cond b m 0
     always true m = refl
     always false m = refl
+
     nothing : (b : Bool) → mw ≡ 0 → cond b mw 0 ≡ 0
     nothing true e = e
     nothing false e = refl
+
     go : (0 < mw) ⊎ (mw ≤ 0) → brought (cond (ltb 0 mw) (record { minute = 0; kind = Posted; a = 0; b = 0; day = start; mw = mw } ∷ rest) rest) day ≡ cond (eqb start day) mw 0 + brought rest day
     go (inl p) = rw (lt-ltb 0 mw p) (ap (λ n. n + brought rest day) (always (eqb start day) mw))
     go (inr p) = rw (le-ltb 0 mw p) (omega (arith, nothing (eqb start day) (omega arith)))

@@ -68,18 +68,19 @@ module _ (v : View) where
 
   kept-prop : IsProp (Kept v)
   kept-prop p q = λ i. record {
-      solvent = solvent-prop (v .lines) (p .solvent) (q .solvent) i;
-      named = names-prop (suc (v .top)) (v .lines) (p .named) (q .named) i;
-      posted = posted-prop (p .posted) (q .posted) i;
-      amounts = amounts-prop (p .amounts) (q .amounts) i;
-      days = few-prop (p .days) (q .days) i;
-      prescheduled = alike-prop (p .prescheduled) (q .prescheduled) i;
-      holders = holders-prop (p .holders) (q .holders) i;
-      challenged = challenged-prop (p .challenged) (q .challenged) i;
-      competing = competing-prop (p .competing) (q .competing) i;
-      once = once-prop (p .once) (q .once) i;
-      terms = all-prop (Termed (v .days)) (termed-prop (v .days)) (v .places) (p .terms) (q .terms) i;
-      accepted = all-prop (Accepted-by (v .top)) (λ e. two-prop (search props) (search props)) (v .places) (p .accepted) (q .accepted) i }
+    solvent = solvent-prop (v .lines) (p .solvent) (q .solvent) i;
+    named = names-prop (suc (v .top)) (v .lines) (p .named) (q .named) i;
+    posted = posted-prop (p .posted) (q .posted) i;
+    amounts = amounts-prop (p .amounts) (q .amounts) i;
+    days = few-prop (p .days) (q .days) i;
+    prescheduled = alike-prop (p .prescheduled) (q .prescheduled) i;
+    holders = holders-prop (p .holders) (q .holders) i;
+    challenged = challenged-prop (p .challenged) (q .challenged) i;
+    competing = competing-prop (p .competing) (q .competing) i;
+    once = once-prop (p .once) (q .once) i;
+    terms = all-prop (Termed (v .days)) (termed-prop (v .days)) (v .places) (p .terms) (q .terms) i;
+    accepted = all-prop (Accepted-by (v .top)) (λ e. two-prop (search props) (search props)) (v .places) (p .accepted) (q .accepted) i;
+  }
 
 module _ (ls : List Line) (r : Record) where
   days-prop : (xs : List ℕ) → IsProp (length xs ≡ 31)
@@ -93,10 +94,11 @@ module _ (ls : List Line) (r : Record) where
 
   shows-prop : IsProp (Shows ls r)
   shows-prop p q = λ i. record {
-      held-days = days-prop (r .held) (p .held-days) (q .held-days) i;
-      aside-days = days-prop (r .aside) (p .aside-days) (q .aside-days) i;
-      holds = holds-prop (p .holds) (q .holds) i;
-      sets-aside = sets-aside-prop (p .sets-aside) (q .sets-aside) i }
+    held-days = days-prop (r .held) (p .held-days) (q .held-days) i;
+    aside-days = days-prop (r .aside) (p .aside-days) (q .aside-days) i;
+    holds = holds-prop (p .holds) (q .holds) i;
+    sets-aside = sets-aside-prop (p .sets-aside) (q .sets-aside) i;
+  }
 
 module _ (d : Desk) where
   written-prop : IsProp (d .used ≤ length (d .lines .now))
@@ -110,11 +112,12 @@ module _ (d : Desk) where
 
   pub sound-prop : IsProp (Sound d)
   sound-prop p q = λ i. record {
-      kept = kept-prop (view d) (p .kept) (q .kept) i;
-      written = written-prop (p .written) (q .written) i;
-      each-day = each-day-prop (p .each-day) (q .each-day) i;
-      frees = frees-prop (p .frees) (q .frees) i;
-      records = all-prop (Shows (view d .lines)) (shows-prop (view d .lines)) (d .places .now) (p .records) (q .records) i }
+    kept = kept-prop (view d) (p .kept) (q .kept) i;
+    written = written-prop (p .written) (q .written) i;
+    each-day = each-day-prop (p .each-day) (q .each-day) i;
+    frees = frees-prop (p .frees) (q .frees) i;
+    records = all-prop (Shows (view d .lines)) (shows-prop (view d .lines)) (d .places .now) (p .records) (q .records) i;
+  }
 
   pub sound-of : ∥ Sound d ∥₁ → Sound d
   sound-of t = ∥∥₁-elim t sound-prop (λ s. s)

@@ -72,9 +72,10 @@ module _ (amounts : List ℕ) (old lines after : List Line) (used used⁺ day : 
       let v : used < used + 1 = omega arith in
       rw (e, f) (
         written-one lines (postings (day + 1) (drop (day + 1) amounts)) used (record { minute = 0; kind = Posted; a = 0; b = 0; day = day; mw = getD amounts day 0 }) u
-          ∙ (ap (λ x. take used lines ++ x) (sym (posted-here amounts day here p)) ∙ so-far .0),
+            ∙ (ap (λ x. take used lines ++ x) (sym (posted-here amounts day here p)) ∙ so-far .0),
         drop-set-lt (used + 1) lines used _ v ∙ (sym (drop-drop 1 used lines) ∙ (ap (drop 1) (so-far .1) ∙ drop-drop 1 used old)),
-        omega (arith, so-far .2))
+        omega (arith, so-far .2),
+      )
 
   pub posting-none : getD amounts day 0 ≤ 0 → after ≡ lines → used⁺ ≡ used → Posting amounts old after used⁺ (day + 1)
   posting-none p e f =

@@ -18,7 +18,8 @@ accounts-on v day = record {
   free = balance (v .lines) free day;
   held = held-below (suc (v .top)) (v .lines) day;
   aside = aside-below (suc (v .top)) (v .lines) day;
-  flown = balance (v .lines) flown day }
+  flown = balance (v .lines) flown day;
+}
 
 -- the answer: the accounts of a posted day, a refusal for any other
 abbrev pub sums-of : View → ℕ → Result Sums Refusal

@@ -31,7 +31,9 @@ view d = record {
   room = length (d .lines .now);
   lines = take (d .used) (d .lines .now);
   places = map entry-of (d .places .now);
-  clock = d .clock; top = d .top }
+  clock = d .clock;
+  top = d .top;
+}
 
 -- a desk over these days that nobody has called yet
 pub record New (d : Desk) (posted : Days) (amounts : List ℕ) (records : List Record) (journal : List Line) (written : ℕ) : Type 0 where

@@ -41,7 +41,13 @@ impl<'a> Memory<'a> {
         ensures { λ r. ⌜ Opened-over (self .entry) r (refusal-over (self .entry)) ⌝ }
     {
         let refused = self.check().is_err();
-        let Memory { amounts, preschedule, free, places, lines } = self;
+        let Memory {
+            amounts,
+            preschedule,
+            free,
+            places,
+            lines,
+        } = self;
         if refused {
             return Desk {
                 amounts: &amounts[0..0],
@@ -57,7 +63,16 @@ impl<'a> Memory<'a> {
         free.copy_from_slice(amounts);
         vacate(places);
         let used = post_days(amounts, lines);
-        Desk { amounts, preschedule, free, places, lines, used, clock: 0, top: 0 }
+        Desk {
+            amounts,
+            preschedule,
+            free,
+            places,
+            lines,
+            used,
+            clock: 0,
+            top: 0,
+        }
     }
 }
 
@@ -97,7 +112,14 @@ fn post_days(amounts: &[u32], lines: &mut [Line]) -> usize
     for day in 0..amounts.len() {
         let mw = amounts[day];
         if mw > 0 {
-            lines[used] = Line { minute: 0, kind: LineKind::Posted, a: 0, b: 0, day: day as u32, mw };
+            lines[used] = Line {
+                minute: 0,
+                kind: LineKind::Posted,
+                a: 0,
+                b: 0,
+                day: day as u32,
+                mw,
+            };
             used += 1;
         }
     }

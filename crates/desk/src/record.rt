@@ -35,9 +35,19 @@ impl Record {
             preconfirmed: false,
             price: 0,
         };
-        let standing = Standing { request, state: State::Gone, queued: 0 };
+        let standing = Standing {
+            request,
+            state: State::Gone,
+            queued: 0,
+        };
         let none = [0; 31];
-        Record { standing, due: 0, against: 0, held: none, aside: none }
+        Record {
+            standing,
+            due: 0,
+            against: 0,
+            held: none,
+            aside: none,
+        }
     }
 
     // The MW held on a day.

@@ -50,6 +50,11 @@ impl Desk<'_> {
         let (held, aside) = held_and_aside(self.places, day);
         let free = self.free[index];
         let flown = self.amounts[index] - free - held - aside;
-        Ok(Sums { free, held, aside, flown })
+        Ok(Sums {
+            free,
+            held,
+            aside,
+            flown,
+        })
     }
 }

@@ -25,7 +25,9 @@ challenger kind product length = record { aref = 9; kind = kind; product = produ
 abbrev pub defender : ℕ → Product → ℕ → State → Standing
 defender aref product length state = record {
   request = record { aref = aref; kind = PointToPoint; product = product; start = 36; length = length; mw = 1; preconfirmed = false; price = 0 };
-  state = state; queued = 0 }
+  state = state;
+  queued = 0;
+}
 
 -- day 36 begins at minute 51,840; its preschedule day is day 3, which begins at minute 4,320
 abbrev pub days : Days

@@ -18,4 +18,5 @@ abbrev pub found : Request → Standing → ℕ → Days → Finding
 found c d minute days = record {
   outranked = firm .outranks c d;
   «open_until» = firm-open-until c d days;
-  «match_until» = granted-until (firm .may-match c d) (firm .answer-by c d minute days) }
+  «match_until» = granted-until (firm .may-match c d) (firm .answer-by c d minute days);
+}

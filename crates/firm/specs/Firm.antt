@@ -92,4 +92,5 @@ firm = record {
   in-time = λ c minute days. not-past (firm-in-time-until c days) minute;
   is-open = λ c d minute days. not-past (firm-open-until c d days) minute;
   answer-by = λ c d minute days. firm-answer-by minute;
-  confirm-time = λ d. firm-confirm-time (d .request .product) }
+  confirm-time = λ d. firm-confirm-time (d .request .product);
+}

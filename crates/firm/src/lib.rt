@@ -4,8 +4,8 @@ ghost use Prim.Native.Nat.{_^_, _<_};
 ghost use Rattle.sheets.specs.Turn.{turn-by};
 ghost use Rattle.firm.specs.Firm.{firm, outlasts, firm-order, firm-in-time-until, firm-open-until, firm-confirmed-until, firm-confirm-time};
 ghost use Rattle.terms.specs.Days.{days-of};
-use sheets::minutes::not_past;
 use sheets::RuleSheet;
+use sheets::minutes::not_past;
 use terms::posted::Posted;
 use terms::posted::first_minute;
 use terms::request::Request;
@@ -13,8 +13,6 @@ use terms::request::Standing;
 use terms::words::Kind;
 use terms::words::Product;
 use terms::words::State;
-
-
 
 #[derive(Clone, Copy)]
 pub struct Firm;
@@ -36,7 +34,12 @@ impl Firm {
     }
 
     // The last minute at which a challenger may take from a defender, rank aside.
-    pub fn open_until(&self, challenger: &Request, defender: &Standing, posted: &Posted) -> Option<u64>
+    pub fn open_until(
+        &self,
+        challenger: &Request,
+        defender: &Standing,
+        posted: &Posted,
+    ) -> Option<u64>
         ensures { λ r. ⌜ r ≡ firm-open-until (now (challenger .entry)) (now (defender .entry)) (days-of (now (posted .entry))) ⌝ }
     {
         let preschedule = posted.preschedule_minute(defender.request.start)?;
@@ -44,7 +47,12 @@ impl Firm {
             State::Accepted | State::Offered => Some(preschedule + 720),
             State::Confirmed => {
                 let start = first_minute(defender.request.start);
-                confirmed_until(challenger.kind, defender.request.product, preschedule, start)
+                confirmed_until(
+                    challenger.kind,
+                    defender.request.product,
+                    preschedule,
+                    start,
+                )
             }
             State::Competing | State::Challenged | State::Gone => None,
         }
@@ -114,7 +122,8 @@ pub impl RuleSheet for Firm as FirmSheet {
             return false;
         }
         challenger.kind.is_network()
-            || (challenger.product.number() >= defender.request.product.number() && outlasts(challenger, defender))
+            || (challenger.product.number() >= defender.request.product.number()
+                && outlasts(challenger, defender))
     }
 
     fn gives_before(&self, one: &Standing, other: &Standing) -> bool {
@@ -122,18 +131,32 @@ pub impl RuleSheet for Firm as FirmSheet {
     }
 
     fn may_match(&self, challenger: &Request, defender: &Standing) -> bool {
-        defender.state.is_confirmed() && !challenger.kind.is_network() && self.outranks(challenger, defender)
+        defender.state.is_confirmed()
+            && !challenger.kind.is_network()
+            && self.outranks(challenger, defender)
     }
 
     fn in_time(&self, challenger: &Request, minute: u32, posted: &Posted) -> bool {
         not_past(self.in_time_until(challenger, posted), minute)
     }
 
-    fn is_open(&self, challenger: &Request, defender: &Standing, minute: u32, posted: &Posted) -> bool {
+    fn is_open(
+        &self,
+        challenger: &Request,
+        defender: &Standing,
+        minute: u32,
+        posted: &Posted,
+    ) -> bool {
         not_past(self.open_until(challenger, defender, posted), minute)
     }
 
-    fn answer_by(&self, _challenger: &Request, _defender: &Standing, minute: u32, _posted: &Posted) -> u64 {
+    fn answer_by(
+        &self,
+        _challenger: &Request,
+        _defender: &Standing,
+        minute: u32,
+        _posted: &Posted,
+    ) -> u64 {
         minute as u64 + 1_440
     }
 

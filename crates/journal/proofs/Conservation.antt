@@ -22,7 +22,7 @@ in-all-add : (n : ℕ) (f g : Account → ℕ) → in-all n (λ x. f x + g x) �
 in-all-add n f g =
     let h = sum-below-add n (λ a. f (held a)) (λ a. g (held a)) in
     let s = sum-below-alike n (λ a. sum-below n (λ b. f (aside a b) + g (aside a b))) (λ a. sum-below n (λ b. f (aside a b)) + sum-below n (λ b. g (aside a b))) (λ a. sum-below-add n (λ b. f (aside a b)) (λ b. g (aside a b)))
-          ∙ sum-below-add n (λ a. sum-below n (λ b. f (aside a b))) (λ a. sum-below n (λ b. g (aside a b))) in
+    ∙ sum-below-add n (λ a. sum-below n (λ b. f (aside a b))) (λ a. sum-below n (λ b. g (aside a b))) in
     omega arith
 
 in-all-ext : (n : ℕ) (f g : Account → ℕ) → ((x : Account) → 0 < sort x → f x ≡ g x) → in-all n f ≡ in-all n g

@@ -30,8 +30,10 @@ count-nobody a (suc n) = omega (arith, count-nobody a n)
 pub all-found : (es : List Entry) → ((a : ℕ) → count a es ≤ 1) → All (λ e. living e ≡ true → find (aref-of e) es ≡ e) es
 unfolding find count
 all-found [] o = tt
-all-found (x ∷ xs) o = ((λ l. rw (and-from (living x) (eqb (aref-of x) (aref-of x)) l (eq-eqb (aref-of x) (aref-of x) refl)) refl),
-    all-weaker _ _ (λ e h l. tail e (h l) l (cases-bool (is (aref-of e) x))) xs (all-found xs (λ a. omega (arith, o a))))
+all-found (x ∷ xs) o = (
+  (λ l. rw (and-from (living x) (eqb (aref-of x) (aref-of x)) l (eq-eqb (aref-of x) (aref-of x) refl)) refl),
+  all-weaker _ _ (λ e h l. tail e (h l) l (cases-bool (is (aref-of e) x))) xs (all-found xs (λ a. omega (arith, o a))),
+)
   where
     tail : (e : Entry) → find (aref-of e) xs ≡ e → living e ≡ true → (is (aref-of e) x ≡ true) ⊎ (is (aref-of e) x ≡ false) → cond (is (aref-of e) x) x (find (aref-of e) xs) ≡ e
     tail e h l (inl q) =

@@ -76,6 +76,7 @@ module _ (v : View) (K : Kept v) (day : ℕ) where
           elsewhere : (0 < balance (v .lines) (aside (aref-of e) b) day) ⊎ (balance (v .lines) (aside (aref-of e) b) day ≤ 0) → balance (v .lines) (aside (aref-of e) b) day ≡ 0
           elsewhere (inl p) = absurd (ne (sym (K .challenged (aref-of e) b day p .2) ∙ ap (λ x. x .against) (found l)))
           elsewhere (inr p) = omega arith
+
       go : (living e ≡ true) ⊎ (living e ≡ false) → cond (living e) (balance (v .lines) (aside (aref-of e) (e .against)) day) 0 ≡ cond (living e) (sum-below (suc (v .top)) (λ b. balance (v .lines) (aside (aref-of e) b) day)) 0
       go (inl l) = ap (λ x. cond (living e) x 0) (sym (sum-below-only (suc (v .top)) (e .against) (λ b. balance (v .lines) (aside (aref-of e) b) day) (omega arith) (other l)))
       go (inr l) = cond-false _ _ _ l ∙ sym (cond-false _ _ _ l)
@@ -95,7 +96,7 @@ module _ (v : View) (K : Kept v) (day : ℕ) where
   aside-same : aside-in (v .places) (v .lines) day ≡ aside-below (suc (v .top)) (v .lines) day
   aside-same = aside-over (v .places) (all-found (v .places) (K .once)) (K .accepted)
       ∙ over-all (suc (v .top)) (v .places) (λ a. sum-below (suc (v .top)) (λ b. balance (v .lines) (aside a b) day)) low (K .once)
-        (λ a q. let w = some-below (suc (v .top)) (λ b. balance (v .lines) (aside a b) day) q in find-counts a (v .places) (K .challenged a (w .0) day (w .1) .0 .0))
+      (λ a q. let w = some-below (suc (v .top)) (λ b. balance (v .lines) (aside a b) day) q in find-counts a (v .places) (K .challenged a (w .0) day (w .1) .0 .0))
 
   pub four-sums : Four-sums v day
   four-sums = let t = none-lost (suc (v .top)) day (v .lines) (K .solvent) (K .named) ∙ K .posted day in

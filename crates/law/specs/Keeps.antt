@@ -35,9 +35,9 @@ pub record Kept (v : View) : Type 0 where
   pub holders : (a day : ℕ) → 0 < balance (v .lines) (held a) day → In-term (find a (v .places)) day
   -- what is set aside of a for b is so in both terms, while a is challenged by b and b is competing
   pub challenged : (a b day : ℕ) → 0 < balance (v .lines) (aside a b) day →
-    In-term (find a (v .places)) day × (is-challenged (find a (v .places) .standing .state) ≡ true) × (find a (v .places) .against ≡ b)
+      In-term (find a (v .places)) day × (is-challenged (find a (v .places) .standing .state) ≡ true) × (find a (v .places) .against ≡ b)
   pub competing : (a b day : ℕ) → 0 < balance (v .lines) (aside a b) day →
-    In-term (find b (v .places)) day × (is-competing (find b (v .places) .standing .state) ≡ true)
+      In-term (find b (v .places)) day × (is-competing (find b (v .places) .standing .state) ≡ true)
   -- living records have different AREFs
   pub once : (a : ℕ) → count a (v .places) ≤ 1
   pub terms : All (Termed (v .days)) (v .places)

@@ -49,8 +49,12 @@ abbrev pub nobody : Entry
 nobody = record {
   standing = record {
     request = record { aref = 0; kind = PointToPoint; product = Daily; start = 0; length = 0; mw = 0; preconfirmed = false; price = 0 };
-    state = Gone; queued = 0 };
-  due = 0; against = 0 }
+    state = Gone;
+    queued = 0;
+  };
+  due = 0;
+  against = 0;
+}
 
 -- the living record of an AREF, nobody where there is none
 unfoldable pub find : ℕ → List Entry → Entry

@@ -5,5 +5,4 @@ ghost use Rattle.law.specs.Sums.{Same-sums};
 // and that with free and flown they add up to what was posted; it does nothing when run.
 pub fn show_same_sums()
     ensures { λ _. ⌜ Same-sums ⌝ }
-{
-}
+{}

@@ -17,4 +17,5 @@ nonfirm-lawful = record {
   right-not-network = λ c d _ _ right. grind (arith, tells);
   raised-stands = λ c d _ _ right. grind (arith, tells);
   answer-later = λ c d minute days _ _ _ in-time. (omega arith, omega arith);
-  confirm-later = λ d _. grind (arith, tells) }
+  confirm-later = λ d _. grind (arith, tells);
+}

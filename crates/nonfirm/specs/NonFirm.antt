@@ -60,4 +60,5 @@ nonfirm = record {
   in-time = λ c minute days. not-past (nonfirm-in-time-until c days) minute;
   is-open = λ c d minute days. not-past (nonfirm-open-until d days) minute;
   answer-by = λ c d minute days. firm-answer-by minute;
-  confirm-time = λ d. firm-confirm-time (d .request .product) }
+  confirm-time = λ d. firm-confirm-time (d .request .product);
+}

@@ -5,8 +5,8 @@ ghost use Rattle.terms.specs.Days.{days-of};
 use firm::firm_confirm_time;
 use firm::firm_turn;
 use firm::outlasts;
-use sheets::minutes::not_past;
 use sheets::RuleSheet;
+use sheets::minutes::not_past;
 use terms::posted::Posted;
 use terms::request::Request;
 use terms::request::Standing;
@@ -50,10 +50,14 @@ pub impl RuleSheet for NonFirm as NonFirmSheet {
     }
 
     fn outranks(&self, challenger: &Request, defender: &Standing) -> bool {
-        if !challenger.preconfirmed || defender.request.kind.is_network() || challenger.kind.is_network() {
+        if !challenger.preconfirmed
+            || defender.request.kind.is_network()
+            || challenger.kind.is_network()
+        {
             return false;
         }
-        challenger.product.number() == defender.request.product.number() && outlasts(challenger, defender)
+        challenger.product.number() == defender.request.product.number()
+            && outlasts(challenger, defender)
     }
 
     fn gives_before(&self, one: &Standing, other: &Standing) -> bool {
@@ -68,11 +72,23 @@ pub impl RuleSheet for NonFirm as NonFirmSheet {
         not_past(self.in_time_until(challenger, posted), minute)
     }
 
-    fn is_open(&self, _challenger: &Request, defender: &Standing, minute: u32, posted: &Posted) -> bool {
+    fn is_open(
+        &self,
+        _challenger: &Request,
+        defender: &Standing,
+        minute: u32,
+        posted: &Posted,
+    ) -> bool {
         not_past(self.open_until(defender, posted), minute)
     }
 
-    fn answer_by(&self, _challenger: &Request, _defender: &Standing, minute: u32, _posted: &Posted) -> u64 {
+    fn answer_by(
+        &self,
+        _challenger: &Request,
+        _defender: &Standing,
+        minute: u32,
+        _posted: &Posted,
+    ) -> u64 {
         minute as u64 + 1_440
     }
 

@@ -1,28 +1,112 @@
 // Notices of one journal, written into outputs of every size, by receipts that fit the journal and by some that do not.
 #[cfg(test)]
 mod tests {
-    use std::test::*;
     use journal::line::Line;
     use journal::line::LineKind;
     use receipts::receipt::Receipt;
+    use std::test::*;
     use terms::refusal::Refusal;
 
     const MOST_AREF: u32 = 4_294_967_295;
 
     // Records 1 and 10 give way on several days, and record 1 to two challengers; record 77 never does.
     const JOURNAL: [Line; 12] = [
-        Line { minute: 0, kind: LineKind::Posted, a: 0, b: 0, day: 3, mw: 50 },
-        Line { minute: 5, kind: LineKind::Granted, a: 0, b: 10, day: 3, mw: 9 },
-        Line { minute: 9, kind: LineKind::Superseded, a: 1, b: 10, day: 3, mw: 4 },
-        Line { minute: 9, kind: LineKind::Superseded, a: 1, b: 10, day: 4, mw: 4 },
-        Line { minute: 9, kind: LineKind::Recalled, a: MOST_AREF, b: 10, day: 3, mw: 2 },
-        Line { minute: 9, kind: LineKind::Lost, a: 77, b: 10, day: 3, mw: 2 },
-        Line { minute: 9, kind: LineKind::SetAside, a: 10, b: MOST_AREF, day: 3, mw: 1 },
-        Line { minute: 9, kind: LineKind::Recalled, a: 1, b: MOST_AREF, day: 5, mw: 4 },
-        Line { minute: 9, kind: LineKind::SetAside, a: 10, b: MOST_AREF, day: 4, mw: 1 },
-        Line { minute: 9, kind: LineKind::Granted, a: 10, b: 1, day: 5, mw: 4 },
-        Line { minute: 9, kind: LineKind::Kept, a: 77, b: 10, day: 5, mw: 4 },
-        Line { minute: 9, kind: LineKind::Flown, a: 77, b: 0, day: 5, mw: 4 },
+        Line {
+            minute: 0,
+            kind: LineKind::Posted,
+            a: 0,
+            b: 0,
+            day: 3,
+            mw: 50,
+        },
+        Line {
+            minute: 5,
+            kind: LineKind::Granted,
+            a: 0,
+            b: 10,
+            day: 3,
+            mw: 9,
+        },
+        Line {
+            minute: 9,
+            kind: LineKind::Superseded,
+            a: 1,
+            b: 10,
+            day: 3,
+            mw: 4,
+        },
+        Line {
+            minute: 9,
+            kind: LineKind::Superseded,
+            a: 1,
+            b: 10,
+            day: 4,
+            mw: 4,
+        },
+        Line {
+            minute: 9,
+            kind: LineKind::Recalled,
+            a: MOST_AREF,
+            b: 10,
+            day: 3,
+            mw: 2,
+        },
+        Line {
+            minute: 9,
+            kind: LineKind::Lost,
+            a: 77,
+            b: 10,
+            day: 3,
+            mw: 2,
+        },
+        Line {
+            minute: 9,
+            kind: LineKind::SetAside,
+            a: 10,
+            b: MOST_AREF,
+            day: 3,
+            mw: 1,
+        },
+        Line {
+            minute: 9,
+            kind: LineKind::Recalled,
+            a: 1,
+            b: MOST_AREF,
+            day: 5,
+            mw: 4,
+        },
+        Line {
+            minute: 9,
+            kind: LineKind::SetAside,
+            a: 10,
+            b: MOST_AREF,
+            day: 4,
+            mw: 1,
+        },
+        Line {
+            minute: 9,
+            kind: LineKind::Granted,
+            a: 10,
+            b: 1,
+            day: 5,
+            mw: 4,
+        },
+        Line {
+            minute: 9,
+            kind: LineKind::Kept,
+            a: 77,
+            b: 10,
+            day: 5,
+            mw: 4,
+        },
+        Line {
+            minute: 9,
+            kind: LineKind::Flown,
+            a: 77,
+            b: 0,
+            day: 5,
+            mw: 4,
+        },
     ];
 
     // What lines 1 to 10 tell.
@@ -95,7 +179,10 @@ mod tests {
         ];
         for (first, count, told) in table {
             let mut room = [OLD; 64];
-            check_eq(write_or_lay_aside(Receipt::issue(first, count), &mut room), Ok(told.len()))?;
+            check_eq(
+                write_or_lay_aside(Receipt::issue(first, count), &mut room),
+                Ok(told.len()),
+            )?;
             check(holds(&room, told))?;
         }
         Ok(())
@@ -125,7 +212,10 @@ mod tests {
     }
 
     // The answers of a receipt that is first written into one output and then into another.
-    fn write_twice(first: &mut [u8], second: &mut [u8]) -> (Result<usize, Refusal>, Result<usize, u32>) {
+    fn write_twice(
+        first: &mut [u8],
+        second: &mut [u8],
+    ) -> (Result<usize, Refusal>, Result<usize, u32>) {
         let mut receipt = Receipt::issue(1, 10);
         let answer = receipt.write_notices(&JOURNAL, first);
         (answer, write_or_lay_aside(receipt, second))

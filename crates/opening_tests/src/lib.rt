@@ -10,7 +10,14 @@ mod tests {
     use journal::line::LineKind;
     use std::test::*;
 
-    const OLD: Line = Line { minute: 9, kind: LineKind::Flown, a: 9, b: 9, day: 9, mw: 9 };
+    const OLD: Line = Line {
+        minute: 9,
+        kind: LineKind::Flown,
+        a: 9,
+        b: 9,
+        day: 9,
+        mw: 9,
+    };
 
     // How many days, MW on each, how much later than its day the last preschedule day is, free amounts, places and
     // journal lines lent; then the refusal's number, 0 for none.

@@ -1,4 +1,4 @@
 // Receipts for journal lines: each is owed until it is laid aside or its notices are written.
-pub mod receipt;
-mod notice;
 mod decimal;
+mod notice;
+pub mod receipt;

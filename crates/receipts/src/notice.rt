@@ -10,6 +10,7 @@ use crate::decimal::write_decimal;
 use journal::line::Line;
 
 const BLANK: u8 = 32;
+
 const LINE_FEED: u8 = 10;
 
 fn notice_length(line: &Line) -> usize

@@ -18,7 +18,11 @@ impl Drop for Receipt {
     fn drop(self)
         requires { ⌜ self .spent ≡ true ⌝ }
     {
-        let Receipt { first: _, count: _, spent: _ } = self;
+        let Receipt {
+            first: _,
+            count: _,
+            spent: _,
+        } = self;
     }
 }
 
@@ -26,7 +30,11 @@ impl Receipt {
     pub fn issue(first: u32, count: u32) -> Receipt
         ensures { λ r. ⌜ r ≡ owed first count ⌝ }
     {
-        Receipt { first, count, spent: false }
+        Receipt {
+            first,
+            count,
+            spent: false,
+        }
     }
 
     pub fn first(&self) -> u32

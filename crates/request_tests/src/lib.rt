@@ -93,7 +93,17 @@ mod tests {
             4_294_967_295,
             5,
         ],
-        [4_294_967_295, 2, 3, 4_294_967_295, 31, 20_000, 1, 1_000_000, 0],
+        [
+            4_294_967_295,
+            2,
+            3,
+            4_294_967_295,
+            31,
+            20_000,
+            1,
+            1_000_000,
+            0,
+        ],
     ];
 
     // The refusal's number, or 0 where the request that was checked holds the numbers of the form.
@@ -118,8 +128,27 @@ mod tests {
     #[test]
     fn every_field_at_its_limits() -> Result<(), Fail> {
         for row in TABLE.iter() {
-            let [aref, kind, product, start, length, mw, preconfirmed, price, expected] = *row;
-            let form = RequestForm { aref, kind, product, start, length, mw, preconfirmed, price };
+            let [
+                aref,
+                kind,
+                product,
+                start,
+                length,
+                mw,
+                preconfirmed,
+                price,
+                expected,
+            ] = *row;
+            let form = RequestForm {
+                aref,
+                kind,
+                product,
+                start,
+                length,
+                mw,
+                preconfirmed,
+                price,
+            };
             check_eq(outcome(form), expected)?;
         }
         Ok(())

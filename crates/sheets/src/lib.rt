@@ -36,11 +36,23 @@ pub trait RuleSheet {
         ensures { λ r. ⌜ r ≡ rules (now (self .entry)) .in-time (now (challenger .entry)) minute (days-of (now (posted .entry))) ⌝ };
 
     // May the challenger take from the defender at this minute?
-    fn is_open(&self, challenger: &Request, defender: &Standing, minute: u32, posted: &Posted) -> bool
+    fn is_open(
+        &self,
+        challenger: &Request,
+        defender: &Standing,
+        minute: u32,
+        posted: &Posted,
+    ) -> bool
         ensures { λ r. ⌜ r ≡ rules (now (self .entry)) .is-open (now (challenger .entry)) (now (defender .entry)) minute (days-of (now (posted .entry))) ⌝ };
 
     // The last minute at which the defender may match a challenge made at this minute.
-    fn answer_by(&self, challenger: &Request, defender: &Standing, minute: u32, posted: &Posted) -> u64
+    fn answer_by(
+        &self,
+        challenger: &Request,
+        defender: &Standing,
+        minute: u32,
+        posted: &Posted,
+    ) -> u64
         ensures { λ r. ⌜ r ≡ rules (now (self .entry)) .answer-by (now (challenger .entry)) (now (defender .entry)) minute (days-of (now (posted .entry))) ⌝ };
 
     // How many minutes an offer to a pending record stands.

@@ -12,6 +12,7 @@ use crate::words::Product;
 use crate::words::mark_from_number;
 
 pub const MOST_MW: u32 = 20_000;
+
 pub const MOST_PRICE: u32 = 1_000_000;
 
 #[derive(Drop)]
@@ -42,13 +43,31 @@ impl RequestForm {
     pub fn check(self) -> Result<CheckedRequest, Refusal>
         ensures { λ r. ⌜ elim r [ Ok c ↦ judged self ≡ Ok (c .request) | Err e ↦ judged self ≡ Err e ] ⌝ }
     {
-        let (Some(kind), Some(product), Some(preconfirmed)) =
-            (Kind::from_number(self.kind), Product::from_number(self.product), mark_from_number(self.preconfirmed))
-        else {
+        let (Some(kind), Some(product), Some(preconfirmed)) = (
+            Kind::from_number(self.kind),
+            Product::from_number(self.product),
+            mark_from_number(self.preconfirmed),
+        ) else {
             return Err(Refusal::UnknownNumber);
         };
-        let RequestForm { aref, start, length, mw, price, .. } = self;
-        check_limits(Request { aref, kind, product, start, length, mw, preconfirmed, price })
+        let RequestForm {
+            aref,
+            start,
+            length,
+            mw,
+            price,
+            ..
+        } = self;
+        check_limits(Request {
+            aref,
+            kind,
+            product,
+            start,
+            length,
+            mw,
+            preconfirmed,
+            price,
+        })
     }
 }
 

@@ -16,7 +16,7 @@ loop-i-again c =
     ∙ replicate-more (c .loop-i .i) vacant
 
 pub returns : need.returns
-returns c = 
+returns c =
     let h : length (c .loop-i .places) ≤ c .loop-i .i = omega arith in
     let e : c .loop-i .i ≡ length (c .args .places .now) = omega arith in
     sym (take-all (c .loop-i .i) (c .loop-i .places) h) ∙ c .loop-i .inv ∙ ap (λ n. replicate n vacant) e

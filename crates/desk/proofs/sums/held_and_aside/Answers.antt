@@ -13,9 +13,10 @@ pub add-aside : need.add-aside
 add-aside c = omega (arith, sum-stays-below (aside-on (c .args .day)) _ _ _ _ _ (c .loop-one-test .taken) (c .loop-one .inv .1) (c .aside-on-aside .ensures), c .pre .aside)
 
 pub loop-one-again : need.loop-one-again
-loop-one-again c =
-    (sum-more (held-on (c .args .day)) _ _ _ _ _ (c .loop-one-test .taken) (c .loop-one .inv .0) (c .held-on-held .ensures),
-     sum-more (aside-on (c .args .day)) _ _ _ _ _ (c .loop-one-test .taken) (c .loop-one .inv .1) (c .aside-on-aside .ensures))
+loop-one-again c = (
+  sum-more (held-on (c .args .day)) _ _ _ _ _ (c .loop-one-test .taken) (c .loop-one .inv .0) (c .held-on-held .ensures),
+  sum-more (aside-on (c .args .day)) _ _ _ _ _ (c .loop-one-test .taken) (c .loop-one .inv .1) (c .aside-on-aside .ensures),
+)
 
 pub returns : need.returns
 returns c =

@@ -33,14 +33,15 @@ loop-rest-again c =
     let fits : c .loop-rest .rest < 2 ^ 32 = omega arith in
     let longer : length (decimal (c .loop-rest .rest)) ≡ length (decimal (c .loop-rest .rest / 10)) + 1 = one-digit-more rest (c .loop-rest-test .taken) fits in
     let some : 0 < length (decimal (c .loop-rest .rest / 10)) = decimal-some (rest / 10) (omega arith) in
-    let place-is : c .loop-rest .place ≡ c .args .at + length (decimal (c .loop-rest .rest / 10)) = omega arith in
-    ( ap (λ p. written at (decimal (rest / 10)) (set out p last)) place-is
-      ∙ written-before at last (decimal (rest / 10)) out (omega arith)
-      ∙ ap (λ ds. written at ds out) (sym (decimal-step rest (c .loop-rest-test .taken) (omega arith)))
-      ∙ c .loop-rest .inv .0
-    , omega arith
-    , omega (arith, length-set out (c .loop-rest .place) last)
-    , omega arith )
+    let place-is : c .loop-rest .place ≡ c .args .at + length (decimal (c .loop-rest .rest / 10)) = omega arith in (
+      ap (λ p. written at (decimal (rest / 10)) (set out p last)) place-is
+          ∙ written-before at last (decimal (rest / 10)) out (omega arith)
+          ∙ ap (λ ds. written at ds out) (sym (decimal-step rest (c .loop-rest-test .taken) (omega arith)))
+          ∙ c .loop-rest .inv .0,
+      omega arith,
+      omega (arith, length-set out (c .loop-rest .place) last),
+      omega arith,
+    )
 
 pub returns : need.returns
 returns c =

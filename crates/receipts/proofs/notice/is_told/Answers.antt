@@ -13,12 +13,13 @@ returns-then-line-aref c =
 pub loop-line-again : need.loop-line-again
 loop-line-again c =
     elim (c .else-gives-way .came) [
-      else-gives-way·by·then-gives-way·else-line-aref w ↦
-        sym (not-told-of-other (c .args .aref) (c .args .lines .now) (c .loop-line .line-index) _ (c .loop-line-test .taken) (sym (w .if-gives-way .ensures tt)) (ne-eqb _ _ (w .if-line-aref .left)))
-        ∙ c .loop-line .inv
-    | else-gives-way·by·else-gives-way w ↦
-        sym (not-told-by-kind (c .args .aref) (c .args .lines .now) (c .loop-line .line-index) _ (c .loop-line-test .taken) (sym (w .if-gives-way .ensures tt)))
-        ∙ c .loop-line .inv ]
+      | else-gives-way·by·then-gives-way·else-line-aref w ↦
+          sym (not-told-of-other (c .args .aref) (c .args .lines .now) (c .loop-line .line-index) _ (c .loop-line-test .taken) (sym (w .if-gives-way .ensures tt)) (ne-eqb _ _ (w .if-line-aref .left)))
+          ∙ c .loop-line .inv
+      | else-gives-way·by·else-gives-way w ↦
+          sym (not-told-by-kind (c .args .aref) (c .args .lines .now) (c .loop-line .line-index) _ (c .loop-line-test .taken) (sym (w .if-gives-way .ensures tt)))
+          ∙ c .loop-line .inv
+    ]
 
 pub returns : need.returns
 returns c = sym (told-by-none (c .args .aref) (c .args .lines .now) (c .loop-line .line-index) (c .loop-line-test .left)) ∙ c .loop-line .inv

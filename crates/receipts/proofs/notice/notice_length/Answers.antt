@@ -9,6 +9,7 @@ use Rattle.receipts.proofs.notice.notice_length.Needs as need
 
 pub returns : need.returns
 returns c =
-    let kind-is = ap (λ k. length (decimal k)) (c .number .ensures) in
-    ( omega (arith, kind-is, length-notice (c .args .line .now), length-field (c .args .line .now .a) 32, length-field (line-number (c .args .line .now .kind)) 32, length-field (c .args .line .now .b) 10)
-    , omega arith )
+    let kind-is = ap (λ k. length (decimal k)) (c .number .ensures) in (
+      omega (arith, kind-is, length-notice (c .args .line .now), length-field (c .args .line .now .a) 32, length-field (line-number (c .args .line .now .kind)) 32, length-field (c .args .line .now .b) 10),
+      omega arith,
+    )

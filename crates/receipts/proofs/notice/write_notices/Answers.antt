@@ -18,15 +18,16 @@ write-notice-at-requires c κs =
 pub loop-i-again : need.loop-i-again
 loop-i-again c =
     elim (c .if-gives-notice .came) [
-      then-gives-notice w ↦
-        let gives = simp sub-zero at (sym (w .if-gives-notice .ensures tt)) in
-        let longer = length-with-line (c .args .lines .now) (c .loop-i .i) no-line (c .loop-i-test .taken) gives in
-        let behind = written-with-line (c .args .lines .now) (c .loop-i .i) no-line (c .loop-i .at) (c .loop-i .out) (c .loop-i-test .taken) gives (omega (arith, c .loop-i .inv .1)) in
-        (cc (behind, w .at-is, w .out-is, w .write-notice-at .ensures .0, w .write-notice-at .ensures .1, c .loop-i .inv .0), omega (arith, longer, w .at-is, w .write-notice-at .ensures .0, c .loop-i .inv .1))
-    | else-gives-notice w ↦
-        let gives = simp sub-zero at (sym (w .if-gives-notice .ensures tt)) in
-        let same = notices-without-line (c .args .lines .now) (c .loop-i .i) no-line (c .loop-i-test .taken) gives in
-        (cc (same, w .at-is, w .out-is, c .loop-i .inv .0), omega (arith, ap length same, w .at-is, c .loop-i .inv .1)) ]
+      | then-gives-notice w ↦
+          let gives = simp sub-zero at (sym (w .if-gives-notice .ensures tt)) in
+          let longer = length-with-line (c .args .lines .now) (c .loop-i .i) no-line (c .loop-i-test .taken) gives in
+          let behind = written-with-line (c .args .lines .now) (c .loop-i .i) no-line (c .loop-i .at) (c .loop-i .out) (c .loop-i-test .taken) gives (omega (arith, c .loop-i .inv .1)) in
+          (cc (behind, w .at-is, w .out-is, w .write-notice-at .ensures .0, w .write-notice-at .ensures .1, c .loop-i .inv .0), omega (arith, longer, w .at-is, w .write-notice-at .ensures .0, c .loop-i .inv .1))
+      | else-gives-notice w ↦
+          let gives = simp sub-zero at (sym (w .if-gives-notice .ensures tt)) in
+          let same = notices-without-line (c .args .lines .now) (c .loop-i .i) no-line (c .loop-i-test .taken) gives in
+          (cc (same, w .at-is, w .out-is, c .loop-i .inv .0), omega (arith, ap length same, w .at-is, c .loop-i .inv .1))
+    ]
 
 pub returns : need.returns
 returns c =

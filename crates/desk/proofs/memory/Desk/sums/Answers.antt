@@ -52,10 +52,11 @@ returns c =
     let ok : Sums → Result Sums Refusal = λ s. Ok s in
     record {
       value =
-        ap ok (sums-alike _ _ _ _ _ _ _ _
+          ap ok (sums-alike _ _ _ _ _ _ _ _
           (S .frees day (c .if-index-self .left))
           (c .held-and-aside-held .ensures .held ∙ held-is d S day)
           (c .held-and-aside-held .ensures .aside ∙ aside-is d S day)
           (omega (arith, in-all c)))
-        ∙ sym (cond-true (ltb day (length (view d .days .amounts))) (ok (accounts-on (view d) day)) (Err DayNotPosted) (lt-ltb day (length (view d .days .amounts)) (c .if-index-self .left)));
-      whole = omega (arith, in-all c) }
+          ∙ sym (cond-true (ltb day (length (view d .days .amounts))) (ok (accounts-on (view d) day)) (Err DayNotPosted) (lt-ltb day (length (view d .days .amounts)) (c .if-index-self .left)));
+      whole = omega (arith, in-all c);
+    }

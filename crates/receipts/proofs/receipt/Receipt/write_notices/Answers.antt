@@ -18,4 +18,5 @@ returns c =
     record {
       answer = grind (arith, tells);
       output = bytes ∙ written-from-start told (c .args .out .now) ∙ ap (λ n. told ++ drop n (c .args .out .now)) (sym long);
-      receipt = search needs }
+      receipt = search needs;
+    }
