@@ -1,4 +1,4 @@
--- A book newly opened keeps what every book keeps, and its memory shows the accounts.
+-- A desk newly opened is sound: its view is a book newly opened, and its memory shows the accounts.
 use mathlib.Core.Path.{_≡_, refl, sym, _∙_, ap, subst}
 use mathlib.Core.Bool.{Bool, true, false, cond}
 use mathlib.Core.List.{List, [], _∷_, _++_, map}
@@ -15,52 +15,24 @@ use Rattle.std.specs.declared.option.Option.the-variants.{Some, None}
 use Rattle.terms.specs.declared.refusal.Refusal.{Refusal}
 use Rattle.terms.specs.Days.{Days}
 use Rattle.journal.specs.declared.line.Line.{Line}
-use Rattle.journal.specs.Accounts.{Account, free, held, aside, sort, balance}
+use Rattle.journal.specs.Accounts.{free, balance}
 use Rattle.law.specs.View.{View, Entry, nobody, living, posted-on}
-use Rattle.law.specs.Keeps.{Kept, Termed, Accepted-by}
-use Rattle.law.proofs.Finds.{count-nobody}
+use Rattle.law.specs.Keeps.{Kept}
+use Rattle.law.specs.Opened.{postings, opened}
+use Rattle.law.proofs.OpenedKeeps.{Fit, all-alike, kept-opened}
+use Rattle.law.proofs.Postings.{postings-free}
 use Rattle.desk.specs.declared.memory.Desk.{Desk}
 use Rattle.desk.specs.declared.memory.Memory.{Memory}
 use Rattle.desk.specs.declared.record.Record.{Record}
 use Rattle.desk.specs.Desks.{view, days-lent, refusal-over, New, Opened-over}
-use Rattle.desk.specs.Opening.{postings, postings-fit, unless, opening-refusal, opened}
+use Rattle.desk.specs.Opening.{postings-fit, unless, opening-refusal}
 use Rattle.desk.specs.Records.{entry-of, vacant}
 use Rattle.desk.specs.Soundness.{Shows, Sound}
-use Rattle.desk.proofs.Postings.{postings-only, posting-solvent, posting-names, postings-bring, postings-free, postings-elsewhere}
-
-all-alike : {X : Type 0} (P : X → Type 0) (n : ℕ) (x : X) → P x → All P (replicate n x)
-all-alike P zero x p = tt
-all-alike P (suc n) x p = (p, all-alike P n x p)
 
 views-alike : (days days′ : Days) (room : ℕ) (ls ls′ : List Line) (es es′ : List Entry) (clock clock′ top top′ : ℕ) →
     days ≡ days′ → ls ≡ ls′ → es ≡ es′ → clock ≡ clock′ → top ≡ top′ →
     _≡_ {A = View} (record { days = days; room = room; lines = ls; places = es; clock = clock; top = top }) (record { days = days′; room = room; lines = ls′; places = es′; clock = clock′; top = top′ })
 views-alike days days′ room ls ls′ es es′ clock clock′ top top′ a b c e f = rw (a, b, c, e, f) refl
-
--- days that a book can be opened over
-pub record Fit (days : Days) : Type 0 where
-  pub few : length (days .amounts) ≤ 400
-  pub alike : length (days .preschedule) ≡ length (days .amounts)
-  pub small : (day : ℕ) → posted-on days day ≤ 20000
-
-none-there : (amounts : List ℕ) (x : Account) (day : ℕ) → 1 < sort x → 0 < balance (postings 0 amounts) x day → ⊥
-none-there amounts x day h p = let z = postings-elsewhere amounts x day h in omega arith
-
-pub kept-opened : (days : Days) (places room : ℕ) → Fit days → Kept (opened days places room)
-kept-opened days places room f = record {
-  solvent = posting-solvent (postings 0 (days .amounts)) (postings-only 0 (days .amounts));
-  named = posting-names (postings 0 (days .amounts)) (postings-only 0 (days .amounts));
-  posted = postings-bring (days .amounts);
-  amounts = f .small;
-  days = f .few;
-  prescheduled = f .alike;
-  holders = λ a day p. absurd (none-there (days .amounts) (held a) day (omega arith) p);
-  challenged = λ a b day p. absurd (none-there (days .amounts) (aside a b) day (omega arith) p);
-  competing = λ a b day p. absurd (none-there (days .amounts) (aside a b) day (omega arith) p);
-  once = λ a. omega (arith, count-nobody a places);
-  terms = all-alike (Termed days) places nobody (omega arith, omega arith, λ l. absurd (false≢true l));
-  accepted = all-alike (Accepted-by 0) places nobody (omega arith, omega arith);
-}
 
 vacant-shows : (ls : List Line) → Shows ls vacant
 vacant-shows ls = record {

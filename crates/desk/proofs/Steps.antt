@@ -13,7 +13,8 @@ use Rattle.std.proofs.shelf.Sums.{sumBy-cons}
 use Rattle.std.proofs.shelf.Tests.{lt-ltb, le-ltb, le-leb, lt-leb, and-from, and-left, and-right, cond-true, cond-false}
 use Rattle.journal.specs.declared.line.Line.{Line}
 use Rattle.journal.specs.declared.line.LineKind.the-variants.{Posted}
-use Rattle.desk.specs.Opening.{postings-fit, busy-days, postings}
+use Rattle.law.specs.Opened.{postings}
+use Rattle.desk.specs.Opening.{postings-fit, busy-days}
 
 module _ (amounts preschedule : List ℕ) (day : ℕ) where
   fit-more : day < length amounts → postings-fit day (drop day amounts) preschedule ≡

@@ -13,7 +13,8 @@ use Rattle.law.specs.View.{View}
 use Rattle.desk.specs.declared.memory.Memory.{Memory}
 use Rattle.desk.specs.declared.memory.Desk.{Desk}
 use Rattle.desk.specs.declared.record.Record.{Record}
-use Rattle.desk.specs.Opening.{opening-refusal, postings}
+use Rattle.law.specs.Opened.{postings}
+use Rattle.desk.specs.Opening.{opening-refusal}
 use Rattle.desk.specs.Records.{entry-of, vacant}
 
 -- the days lent

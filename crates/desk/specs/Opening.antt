@@ -1,4 +1,4 @@
--- When a book may be opened over lent memory, and what it holds then.
+-- When a book may be opened over lent memory.
 use mathlib.Core.Path.{_≡_}
 use mathlib.Core.Bool.{Bool, true, false, _&&_, cond}
 use mathlib.Core.List.{List, [], _∷_, _++_}
@@ -11,9 +11,6 @@ use Rattle.std.specs.declared.option.Option.the-variants.{Some, None}
 use Rattle.terms.specs.declared.refusal.Refusal.{Refusal}
 use Rattle.terms.specs.declared.refusal.Refusal.the-variants.{BadDayCount, BadPosting, BadPlaceCount, BadJournalSize}
 use Rattle.terms.specs.Days.{Days}
-use Rattle.journal.specs.declared.line.Line.{Line}
-use Rattle.journal.specs.declared.line.LineKind.the-variants.{Posted}
-use Rattle.law.specs.View.{View, nobody}
 
 -- 1 to 400 days, with a preschedule day and a free amount for each
 abbrev pub days-fit : Days → ℕ → Bool
@@ -48,17 +45,3 @@ opening-refusal days free places room =
     (unless (places-fit places) BadPlaceCount
     (unless (journal-fits (days .amounts) room) BadJournalSize
     None)))
-
--- at minute 0 each amount above 0 MW, from day k on, is posted to free
-abbrev pub postings : ℕ → List ℕ → List Line
-postings day [] = []
-postings day (mw ∷ amounts) =
-    cond (ltb 0 mw) (record { minute = 0; kind = Posted; a = 0; b = 0; day = day; mw = mw } ∷ postings (suc day) amounts) (postings (suc day) amounts)
-
--- a book newly opened
-abbrev pub opened : Days → ℕ → ℕ → View
-opened days places room = record { days = days; room = room; lines = postings 0 (days .amounts); places = replicate places nobody; clock = 0; top = 0 }
-
--- a book of no days, places or lines
-abbrev pub no-book : View
-no-book = opened (record { amounts = []; preschedule = [] }) 0 0

@@ -1,2 +1,4 @@
 pub mod Finds
 pub mod OwnSums
+pub mod Postings
+pub mod OpenedKeeps

@@ -1,5 +1,5 @@
 -- What the words of the trade say of a kind of service and of a record's state.
-use mathlib.Core.Bool.{Bool, true, false}
+use mathlib.Core.Bool.{Bool, true, false, not}
 use Rattle.terms.specs.declared.words.Kind.{Kind}
 use Rattle.terms.specs.declared.words.Kind.the-variants.{PointToPoint, Network}
 use Rattle.terms.specs.declared.words.State.{State}
@@ -26,14 +26,17 @@ is-confirmed Competing = false
 is-confirmed Challenged = false
 is-confirmed Gone = false
 
+abbrev pub is-gone : State → Bool
+is-gone Confirmed = false
+is-gone Accepted = false
+is-gone Offered = false
+is-gone Competing = false
+is-gone Challenged = false
+is-gone Gone = true
+
 -- a record lives until it is gone, and then gives its place back
 abbrev pub is-living : State → Bool
-is-living Confirmed = true
-is-living Accepted = true
-is-living Offered = true
-is-living Competing = true
-is-living Challenged = true
-is-living Gone = false
+is-living s = not (is-gone s)
 
 -- a defender whose match is open
 abbrev pub is-challenged : State → Bool

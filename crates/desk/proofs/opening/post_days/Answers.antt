@@ -4,7 +4,7 @@ use native.Mathlib.Omega.{arith}
 use Prim.Native.Nat.{ℕ, _+_, _≤_, _<_}
 use lib.ListN.{length, take, drop}
 use Rattle.std.proofs.shelf.Lists.{drop-all, length-take-le, take-append-drop}
-use Rattle.desk.specs.Opening.{postings}
+use Rattle.law.specs.Opened.{postings}
 use Rattle.desk.proofs.Steps.{busy-here, posting-one, posting-none}
 use Rattle.desk.proofs.opening.post_days.Needs as need
 use Rattle.desk.proofs.opening.post_days.Needs.{then-mw-gt0, else-mw-gt0}

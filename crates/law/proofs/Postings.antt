@@ -14,7 +14,7 @@ use Rattle.journal.specs.declared.line.Line.{Line}
 use Rattle.journal.specs.declared.line.LineKind.{LineKind}
 use Rattle.journal.specs.declared.line.LineKind.the-variants.{Posted}
 use Rattle.journal.specs.Accounts.{Account, outside, free, flown, held, aside, sort, same, from, to, brings, takes, into, out-of, balance, brought, Never-below-zero, Names-below}
-use Rattle.desk.specs.Opening.{postings}
+use Rattle.law.specs.Opened.{postings}
 
 -- lines that only post
 abbrev pub Posting-only : List Line → Type 0

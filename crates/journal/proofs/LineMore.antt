@@ -1,2 +1,0 @@
--- One line more: what it does to the accounts.
-use mathlib.Core.Path.{_≡_}
