@@ -16,7 +16,7 @@ use Rattle.journal.proofs.Conservation.{none-lost}
 use Rattle.law.specs.View.{Entry, View, aref-of, is, living, find, count}
 use Rattle.law.specs.Keeps.{Kept, Accepted-by}
 use Rattle.law.specs.Sums.{held-in, aside-in, Four-sums, Same-sums}
-use Rattle.law.proofs.Finds.{find-counts, all-found}
+use Rattle.law.proofs.Finds.{find-count, all-found}
 
 -- the sum over the living records of a function of their AREF
 over-living : List Entry → (ℕ → ℕ) → ℕ
@@ -91,12 +91,12 @@ module _ (v : View) (K : Kept v) (day : ℕ) where
   low = all-weaker _ _ (λ e q. omega arith) (v .places) (K .accepted)
 
   held-same : held-in (v .places) (v .lines) day ≡ held-below (suc (v .top)) (v .lines) day
-  held-same = held-over (v .places) (v .lines) day ∙ over-all (suc (v .top)) (v .places) (λ a. balance (v .lines) (held a) day) low (K .once) (λ a q. find-counts a (v .places) (K .holders a day q .0))
+  held-same = held-over (v .places) (v .lines) day ∙ over-all (suc (v .top)) (v .places) (λ a. balance (v .lines) (held a) day) low (K .once) (λ a q. find-count a (v .places) (K .holders a day q .0))
 
   aside-same : aside-in (v .places) (v .lines) day ≡ aside-below (suc (v .top)) (v .lines) day
   aside-same = aside-over (v .places) (all-found (v .places) (K .once)) (K .accepted)
       ∙ over-all (suc (v .top)) (v .places) (λ a. sum-below (suc (v .top)) (λ b. balance (v .lines) (aside a b) day)) low (K .once)
-      (λ a q. let w = some-below (suc (v .top)) (λ b. balance (v .lines) (aside a b) day) q in find-counts a (v .places) (K .challenged a (w .0) day (w .1) .0 .0))
+      (λ a q. let w = some-below (suc (v .top)) (λ b. balance (v .lines) (aside a b) day) q in find-count a (v .places) (K .challenged a (w .0) day (w .1) .0 .0))
 
   pub four-sums : Four-sums v day
   four-sums = let t = none-lost (suc (v .top)) day (v .lines) (K .solvent) (K .named) ∙ K .posted day in

@@ -6,3 +6,6 @@ pub mod Posting
 pub mod Places
 pub mod Preemption
 pub mod Calls
+pub mod AccountsLaw
+pub mod TurnLaw
+pub mod MatchLaw

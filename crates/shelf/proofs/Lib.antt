@@ -1,3 +1,3 @@
 -- Lemmas on shelves.
-mod Slots
-mod Lines
+pub mod Slots
+pub mod Lines
