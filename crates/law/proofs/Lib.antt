@@ -18,3 +18,5 @@ pub mod Keeps
 pub mod Paid
 pub mod Quiet
 pub mod Steps
+pub mod Terms
+pub mod Right

@@ -1,0 +1,57 @@
+-- What every call keeps of a book, all together, and so every list of calls.
+use mathlib.Core.Path.{_≡_, refl, sym, _∙_, ap, subst}
+use mathlib.Core.Bool.{true, false}
+use mathlib.Core.List.{List, [], _∷_, _++_}
+use Prim.Native.Nat.{ℕ, suc, _≤_, _<_}
+use native.Mathlib.Omega.{arith}
+use lib.ListN.{length}
+use Rattle.std.specs.shelf.Lists.{All}
+use Rattle.std.proofs.shelf.Tests.{false≢true}
+use Rattle.terms.specs.Days.{Days}
+use Rattle.sheets.specs.Rules.{Rules}
+use Rattle.journal.specs.Accounts.{held, aside, balance}
+use Rattle.law.specs.View.{View, nobody, posted-on}
+use Rattle.law.specs.Keeps.{Kept, Termed}
+use Rattle.law.specs.Opened.{postings, opened}
+use Rattle.law.specs.Calls.{Call, step, run}
+use Rattle.law.specs.TurnLaw.{Is-checked}
+use Rattle.law.proofs.Finds.{count-nobody}
+use Rattle.law.proofs.OpenedKeeps.{all-alike}
+use Rattle.law.proofs.Postings.{postings-elsewhere}
+use Rattle.law.proofs.Whole.{Whole}
+use Rattle.law.proofs.Keeps.{whole-step}
+use Rattle.law.proofs.Steps.{Sound, sound-step, sound-opened}
+use Rattle.law.proofs.Terms.{terms-step, days-stay}
+
+-- the accounts are sound with p posted, and whoever holds MW stands in the places
+pub record Right (p : ℕ → ℕ) (v : View) : Type 0 where
+  pub sound : Sound p v
+  pub whole : Whole (v .lines) (v .places)
+
+pub right-step : (R : Rules) (p : ℕ → ℕ) (v : View) → Right p v → (c : Call) → Right p (step R c v .1)
+right-step R p v r c = record { sound = sound-step R p v (r .sound) c; whole = whole-step R v (r .whole) (r .sound .low) c }
+
+pub right-run : (R : Rules) (p : ℕ → ℕ) (cs : List Call) (v : View) → Right p v → Right p (run R cs v)
+unfolding run
+right-run R p [] v r = r
+right-run R p (c ∷ cs) v r = right-run R p cs (step R c v .1) (right-step R p v r c)
+
+pub right-opened : (days : Days) (places room : ℕ) → Right (posted-on days) (opened days places room)
+right-opened days places room = record { sound = sound-opened days places room; whole = record {
+    supp = record {
+      nbz = sound-opened days places room .fine .nbz;
+      holds = λ a k p. absurd (let z = postings-elsewhere (days .amounts) (held a) k (omega arith) in omega arith);
+      asides = λ a b k p. absurd (let z = postings-elsewhere (days .amounts) (aside a b) k (omega arith) in omega arith) };
+    once = λ a. omega (arith, count-nobody a places) } }
+
+pub right-at : (R : Rules) (days : Days) (places room : ℕ) (cs : List Call) → Right (posted-on days) (run R cs (opened days places room))
+right-at R days places room cs = right-run R (posted-on days) cs (opened days places room) (right-opened days places room)
+
+pub terms-run : (R : Rules) (cs : List Call) (v : View) → All Is-checked cs → All (Termed (v .days)) (v .places) → All (Termed (run R cs v .days)) (run R cs v .places)
+unfolding run
+terms-run R [] v h t = t
+terms-run R (c ∷ cs) v h t = terms-run R cs (step R c v .1) (h .1) (subst (λ days. All (Termed days) (step R c v .1 .places)) (sym (days-stay R c v)) (terms-step R v t c (h .0)))
+
+pub terms-at : (R : Rules) (days : Days) (places room : ℕ) (cs : List Call) → All Is-checked cs →
+    All (Termed (run R cs (opened days places room) .days)) (run R cs (opened days places room) .places)
+terms-at R days places room cs h = terms-run R cs (opened days places room) h (all-alike (Termed days) places nobody (omega arith, omega arith, λ l. absurd (false≢true l)))
