@@ -20,3 +20,4 @@ pub mod Quiet
 pub mod Steps
 pub mod Terms
 pub mod Right
+pub mod Rightly

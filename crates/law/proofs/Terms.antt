@@ -7,7 +7,7 @@ use Prim.Native.Nat.{ℕ, suc, _+_, _-_, _≤_, _<_, max}
 use native.Mathlib.Omega.{arith}
 use lib.Dec.{leb, ltb, eqb}
 use lib.ListN.{length}
-use Rattle.std.specs.shelf.Lists.{All}
+use Rattle.std.specs.shelf.Lists.{All, kept-by}
 use Rattle.std.proofs.shelf.Tests.{cases-bool, and-parts, or-parts, false≢true, leb-true, ltb-false, cond-true, cond-false}
 use Rattle.std.proofs.shelf.Ways.{tells}
 use Rattle.terms.specs.declared.request.Request.{Request}
@@ -44,8 +44,17 @@ checked-possible r h = sold-possible (r .product) (r .length) (and-parts _ _ h .
 pub termed-possible : (days : Days) (e : Entry) → living e ≡ true → Termed days e → Possible (e .standing .request)
 termed-possible days e l t = (t .2 l, t .0)
 
+-- the living among records inside the days can exist
+pub living-possible : (days : Days) (p : Entry → Bool) → ((e : Entry) → p e ≡ true → living e ≡ true) → (es : List Entry) → All (Termed days) es → All (λ e. Possible (e .standing .request)) (kept-by p es)
+living-possible days p l [] h = tt
+living-possible days p l (e ∷ es) h = go (living-possible days p l es (h .1)) (cases-bool (p e))
+  where
+    go : All (λ d. Possible (d .standing .request)) (kept-by p es) → (p e ≡ true) ⊎ (p e ≡ false) → All (λ d. Possible (d .standing .request)) (cond (p e) (e ∷ kept-by p es) (kept-by p es))
+    go rest (inl q) = rw (cond-true (p e) (e ∷ kept-by p es) (kept-by p es) q) (termed-possible days e (l e q) (h .0), rest)
+    go rest (inr q) = rw (cond-false (p e) (e ∷ kept-by p es) (kept-by p es) q) rest
+
 module _ (days : Days) where
-  termed-nobody : Termed days nobody
+  pub termed-nobody : Termed days nobody
   termed-nobody = (omega arith, omega arith, λ l. absurd (false≢true l))
 
   termed-leave : (e : Entry) → Termed days e → Termed days (leave e)
@@ -155,3 +164,7 @@ days-stay R c v = go (asked R c v)
         full : (b : Bool) → (cond {A = Answer × View} b (refusal JournalFull, v) (done a s (length (v .lines)) (length ls - length (v .lines)), record { days = v .days; room = v .room; lines = ls; places = es; clock = minute-of c; top = new-top c (v .top) })) .1 .days ≡ v .days
         full true = refl
         full false = refl
+
+-- a living record that is found can exist
+pub found-possible : (v : View) → All (Termed (v .days)) (v .places) → (a : ℕ) → living (find a (v .places)) ≡ true → Possible (find a (v .places) .standing .request)
+found-possible v T a l = termed-possible (v .days) (find a (v .places)) l (all-find (Termed (v .days)) a (v .places) (termed-nobody (v .days)) T)
