@@ -10,7 +10,7 @@ use Rattle.law.specs.View.{Entry, aref-of, living, find, posted-on}
 use Rattle.law.specs.Keeps.{Termed}
 use Rattle.law.specs.Sums.{Four-sums}
 use Rattle.law.proofs.Finds.{all-found}
-use Rattle.law.proofs.OwnSums.{four-sums}
+use Rattle.law.proofs.OwnSums.{accounted-kept, four-sums}
 use Rattle.desk.specs.declared.memory.Desk.{Desk}
 use Rattle.desk.specs.declared.record.Record.{Record}
 use Rattle.desk.specs.Desks.{view}
@@ -25,7 +25,7 @@ all-three f P Q R (x ∷ xs) p q r = ((p .0, q .0, r .0), all-three f P Q R xs (
 
 module _ (d : Desk) (S : Sound d) (day : ℕ) where
   sums : Four-sums (view d) day
-  sums = four-sums (view d) (S .kept) day
+  sums = four-sums (view d) (accounted-kept (view d) (S .kept)) day
 
   stand : All (Stands (view d) (S .kept) day) (d .places .now)
   stand = all-three entry-of (Shows (view d .lines)) (λ e. living e ≡ true → find (aref-of e) (view d .places) ≡ e) (Termed (view d .days)) (d .places .now)

@@ -21,3 +21,7 @@ pub mod Steps
 pub mod Terms
 pub mod Right
 pub mod Rightly
+pub mod Fates
+pub mod Starts
+pub mod Lines
+pub mod AccountsHold

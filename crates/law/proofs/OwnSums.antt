@@ -10,11 +10,12 @@ use Rattle.std.specs.shelf.Lists.{All}
 use Rattle.std.proofs.shelf.Elements.{all-weaker}
 use Rattle.std.proofs.shelf.Tests.{eq-eqb, ne-eqb, cases-eq, cases-lt, cases-bool, cond-true, cond-false}
 use Rattle.journal.specs.declared.line.Line.{Line}
-use Rattle.journal.specs.Accounts.{held, aside, balance, sum-below, held-below, aside-below}
+use Rattle.journal.specs.Accounts.{held, aside, balance, brought, Never-below-zero, Names-below, sum-below, held-below, aside-below}
 use Rattle.journal.proofs.Sums.{sum-below-add, sum-below-alike, sum-below-zero, sum-below-point, sum-below-only, some-below}
 use Rattle.journal.proofs.Conservation.{none-lost}
-use Rattle.law.specs.View.{Entry, View, aref-of, is, living, find, count}
-use Rattle.law.specs.Keeps.{Kept, Accepted-by}
+use Rattle.law.specs.View.{Entry, View, aref-of, is, living, find, count, posted-on}
+use Rattle.terms.specs.Words.{is-challenged}
+use Rattle.law.specs.Keeps.{Kept, In-term, Accepted-by}
 use Rattle.law.specs.Sums.{held-in, aside-in, Four-sums, Same-sums}
 use Rattle.law.proofs.Finds.{find-count, all-found}
 
@@ -64,7 +65,21 @@ unfolding over-living
 held-over [] ls day = refl
 held-over (e ∷ es) ls day = ap (λ x. cond (living e) (balance ls (held (aref-of e)) day) 0 + x) (held-over es ls day)
 
-module _ (v : View) (K : Kept v) (day : ℕ) where
+-- what the sums rest on
+pub record Accounted (v : View) : Type 0 where
+  pub solvent : Never-below-zero (v .lines)
+  pub named : Names-below (suc (v .top)) (v .lines)
+  pub posted : (day : ℕ) → brought (v .lines) day ≡ posted-on (v .days) day
+  pub holders : (a day : ℕ) → 0 < balance (v .lines) (held a) day → In-term (find a (v .places)) day
+  pub challenged : (a b day : ℕ) → 0 < balance (v .lines) (aside a b) day →
+    In-term (find a (v .places)) day × (is-challenged (find a (v .places) .standing .state) ≡ true) × (find a (v .places) .against ≡ b)
+  pub once : (a : ℕ) → count a (v .places) ≤ 1
+  pub accepted : All (Accepted-by (v .top)) (v .places)
+
+pub accounted-kept : (v : View) → Kept v → Accounted v
+accounted-kept v K = record { solvent = K .solvent; named = K .named; posted = K .posted; holders = K .holders; challenged = K .challenged; once = K .once; accepted = K .accepted }
+
+module _ (v : View) (K : Accounted v) (day : ℕ) where
   -- of a living record only what is aside for its own challenger counts
   aside-one : (e : Entry) → (living e ≡ true → find (aref-of e) (v .places) ≡ e) → e .against ≤ v .top →
       cond (living e) (balance (v .lines) (aside (aref-of e) (e .against)) day) 0 ≡ cond (living e) (sum-below (suc (v .top)) (λ b. balance (v .lines) (aside (aref-of e) b) day)) 0
@@ -104,4 +119,4 @@ module _ (v : View) (K : Kept v) (day : ℕ) where
       record { holdings = h; asides = s; whole = omega arith }
 
 pub same-sums : Same-sums
-same-sums = four-sums
+same-sums v K = four-sums v (accounted-kept v K)

@@ -26,6 +26,7 @@ use Rattle.law.specs.View.{Entry, View, aref-of, start-of, length-of, find}
 use Rattle.law.specs.Calls.{Call, submit, confirm, withdraw, match, decline, settle, Made, refused, makes, release, fly, lose, keep, extend, makes-of, step}
 use Rattle.law.specs.Posting.{post, by-day, holding, free-on}
 use Rattle.law.specs.MatchLaw.{noted}
+use Rattle.law.specs.TurnLaw.{is-submit}
 use Rattle.law.proofs.Fine.{nbz-push, takes-le, cond-never, same-is}
 use Rattle.law.proofs.Posts.{balance-push}
 use Rattle.law.proofs.Support.{days-ind}
@@ -117,14 +118,6 @@ subject d (withdraw t a) v = d
 subject d (match t a) v = aref-of (find a (v .places))
 subject d (decline t a) v = aref-of (find a (v .places))
 subject d (settle t) v = aref-of (Calls.first-due t (v .places))
-
-abbrev pub is-submit : Call → Bool
-is-submit (submit t r) = true
-is-submit (confirm t a) = false
-is-submit (withdraw t a) = false
-is-submit (match t a) = false
-is-submit (decline t a) = false
-is-submit (settle t) = false
 
 module _ (R : Rules) (v : View) where
   abbrev pub Pays : Bool → ℕ → List Line → List Entry → Type 0

@@ -18,6 +18,7 @@ use Rattle.law.specs.TurnLaw.{Is-checked}
 use Rattle.law.proofs.Finds.{count-nobody}
 use Rattle.law.proofs.OpenedKeeps.{all-alike}
 use Rattle.law.proofs.Postings.{postings-elsewhere}
+use Rattle.law.proofs.OwnSums.{Accounted}
 use Rattle.law.proofs.Whole.{Whole}
 use Rattle.law.proofs.Keeps.{whole-step}
 use Rattle.law.proofs.Steps.{Sound, sound-step, sound-opened}
@@ -55,3 +56,19 @@ terms-run R (c ∷ cs) v h t = terms-run R cs (step R c v .1) (h .1) (subst (λ 
 pub terms-at : (R : Rules) (days : Days) (places room : ℕ) (cs : List Call) → All Is-checked cs →
     All (Termed (run R cs (opened days places room) .days)) (run R cs (opened days places room) .places)
 terms-at R days places room cs h = terms-run R cs (opened days places room) h (all-alike (Termed days) places nobody (omega arith, omega arith, λ l. absurd (false≢true l)))
+
+-- no list of calls changes the posted days
+pub days-at : (R : Rules) (cs : List Call) (v : View) → run R cs v .days ≡ v .days
+unfolding run
+days-at R [] v = refl
+days-at R (c ∷ cs) v = days-at R cs (step R c v .1) ∙ days-stay R c v
+
+pub accounted-right : (days : Days) (v : View) → v .days ≡ days → Right (posted-on days) v → Accounted v
+accounted-right days v e I = record {
+    solvent = I .sound .fine .nbz;
+    named = I .sound .fine .names;
+    posted = λ day. I .sound .fine .whole day ∙ ap (λ ds. posted-on ds day) (sym e);
+    holders = I .whole .supp .holds;
+    challenged = λ a b day p. I .whole .supp .asides a b day p .0;
+    once = I .whole .once;
+    accepted = I .sound .low }

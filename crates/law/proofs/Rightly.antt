@@ -230,5 +230,5 @@ module _ (R : Rules) (L : Lawful R) (p : ℕ → ℕ) (v : View) (I : Right p v)
           let z : ⊥ = omega arith in absurd z
 
 pub taken-in-turn : Taken-in-turn
-taken-in-turn R L days places room cs t r checked sold xs zs l e =
+taken-in-turn R L days places room cs t r checked xs zs l e =
     rightly-all R L (posted-on days) (run R cs (opened days places room)) (right-at R days places room cs) (terms-at R days places room cs checked) t r xs zs l e

@@ -60,7 +60,7 @@ Rightly-taken R minute r v w xs ms l Flown = ⊥
 -- of every submit after every list of calls, each line that it wrote was rightly taken
 abbrev pub Taken-in-turn : Type 0
 Taken-in-turn = (R : Rules) → Lawful R → (days : Days) (places room : ℕ) (calls : List Call) (minute : ℕ) (r : Request) →
-    All Is-checked calls → sellable r ≡ true →
+    All Is-checked calls →
     let v = run R calls (opened days places room) in
     let w = step R (submit minute r) v .1 in
     (xs zs : List Line) (l : Line) → w .lines ≡ (v .lines ++ xs) ++ l ∷ zs → Rightly-taken R minute r v w xs (v .lines ++ xs) l (l .kind)

@@ -1,2 +1,3 @@
-// What a book is and keeps, as definitions, and what follows from them for every book.
+// What a book is and keeps, what each call makes of it, and the law over every run of calls.
+pub mod runs;
 pub mod sums;

@@ -1,0 +1,26 @@
+-- Over every list of calls no megawatt is lost.
+use mathlib.Core.Path.{_≡_, _∙_}
+use mathlib.Core.List.{List}
+use Prim.Native.Nat.{ℕ, suc, _+_, _≤_, _<_}
+use native.Mathlib.Omega.{arith}
+use lib.ListN.{take}
+use Rattle.std.specs.shelf.Lists.{All}
+use Rattle.std.proofs.shelf.Elements.{all-take}
+use Rattle.journal.proofs.Conservation.{none-lost}
+use Rattle.law.specs.View.{View, posted-on}
+use Rattle.law.specs.Opened.{opened}
+use Rattle.law.specs.Calls.{run}
+use Rattle.law.specs.AccountsLaw.{No-megawatt-lost}
+use Rattle.law.proofs.Lines.{nbz-take}
+use Rattle.law.proofs.OwnSums.{four-sums}
+use Rattle.law.proofs.Right.{Right, right-at, days-at, accounted-right}
+
+pub no-megawatt-lost : No-megawatt-lost
+no-megawatt-lost R days places room cs =
+    let v = run R cs (opened days places room) in
+    let I = right-at R days places room cs in
+    record {
+      solvent = I .sound .fine .nbz;
+      each-line = λ n day. none-lost (suc (v .top)) day (take n (v .lines)) (nbz-take n (v .lines) (I .sound .fine .nbz)) (all-take _ n (v .lines) (I .sound .fine .names));
+      in-the-end = I .sound .fine .whole;
+      answered = λ day. four-sums v (accounted-right days v (days-at R cs (opened days places room)) I) day }
