@@ -35,7 +35,7 @@ use Rattle.law.proofs.Entering.{Hold⁺, Side⁺, fit-preempt, whole-granted, 
 use Rattle.law.proofs.Support.{Supp, supp-into}
 
 -- what holds of the lines and places that a call makes
-pub Holds : (List Line → List Entry → Type 0) → Made → Type 0
+unfoldable pub Holds : (List Line → List Entry → Type 0) → Made → Type 0
 Holds P (refused c) = Unit {0}
 Holds P (makes ls es a s) = P ls es
 

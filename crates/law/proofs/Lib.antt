@@ -25,3 +25,4 @@ pub mod Fates
 pub mod Starts
 pub mod Lines
 pub mod AccountsHold
+pub mod Begins

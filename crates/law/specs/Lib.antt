@@ -9,3 +9,4 @@ pub mod Calls
 pub mod AccountsLaw
 pub mod TurnLaw
 pub mod MatchLaw
+pub mod BeginsLaw
