@@ -11,9 +11,9 @@ use Rattle.law.specs.View.{View, posted-on}
 use Rattle.law.specs.Opened.{opened}
 use Rattle.law.specs.Calls.{run}
 use Rattle.law.specs.AccountsLaw.{No-megawatt-lost}
-use Rattle.law.proofs.Lines.{nbz-take}
+use Rattle.law.proofs.LineByLine.{nbz-take}
 use Rattle.law.proofs.OwnSums.{four-sums}
-use Rattle.law.proofs.Right.{Right, right-at, days-at, accounted-right}
+use Rattle.law.proofs.KeptOverRuns.{Right, right-at, days-at, accounted-right}
 
 pub no-megawatt-lost : No-megawatt-lost
 no-megawatt-lost R days places room cs =

@@ -29,8 +29,8 @@ use Rattle.law.specs.Places.{change, match-open, in-state, due-at, leave, over
 use Rattle.law.specs.Preemption.{defends, empty, none-aside, preempt, after-preempt}
 use Rattle.law.specs.Calls.{Call, submit, confirm, withdraw, match, decline, settle, Made, refused, makes, Answer, refusal, done, written, minute-of, new-top, closed-state, close, close-if-last, let-go, flew, declined, matched, entered, submitted, by-aref, settles, makes-of, asked, first-due, step}
 use Rattle.law.specs.TurnLaw.{Is-checked}
-use Rattle.law.proofs.Keeps.{Holds, holds, refuses, holds-stop, holds-if, holds-written, defends-lives}
-use Rattle.law.proofs.Places.{all-find, all-seat, all-maps}
+use Rattle.law.proofs.EveryCallKeeps.{Holds, holds, refuses, holds-stop, holds-if, holds-written, defends-lives}
+use Rattle.law.proofs.AllPlaces.{all-find, all-seat, all-maps}
 
 -- what is sold lasts 1 to 31 days
 sold-possible : (p : Product) (n : ℕ) → sold-length p n ≡ true → (1 ≤ n) × (n ≤ 31)

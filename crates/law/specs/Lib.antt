@@ -10,3 +10,4 @@ pub mod AccountsLaw
 pub mod TurnLaw
 pub mod MatchLaw
 pub mod BeginsLaw
+pub mod KeepsLaw

@@ -1,8 +1,16 @@
 // The law over runs: statements about every list of calls on a newly opened book. The functions carry them and do
 // nothing when run.
 ghost use Rattle.law.specs.AccountsLaw.{No-megawatt-lost};
+ghost use Rattle.law.specs.BeginsLaw.{Begins-exactly-when-due};
+ghost use Rattle.law.specs.KeepsLaw.{Every-call-keeps};
 ghost use Rattle.law.specs.MatchLaw.{One-fate, Only-one-fate};
 ghost use Rattle.law.specs.TurnLaw.{Taken-in-turn, Only-submits-take};
+
+// What every book keeps is kept by every call.
+pub fn show_every_call_keeps()
+    ensures { λ _. ⌜ Every-call-keeps ⌝ }
+{
+}
 
 // No account is ever below zero; the accounts add up to what was posted and are the sums that the book answers.
 pub fn show_no_megawatt_lost()
@@ -22,5 +30,11 @@ pub fn show_taken_in_turn()
 pub fn show_one_fate()
     ensures fate { λ _. ⌜ One-fate ⌝ }
     ensures alone { λ _. ⌜ Only-one-fate ⌝ }
+{
+}
+
+// Somebody gives way by a submit exactly when preemption is due.
+pub fn show_begins_when_due()
+    ensures { λ _. ⌜ Begins-exactly-when-due ⌝ }
 {
 }

@@ -1,4 +1,4 @@
-use Rattle.law.proofs.Starts.{one-fate, only-one}
+use Rattle.law.proofs.MatchStarts.{one-fate, only-one}
 use Rattle.law.proofs.runs.show_one_fate.Needs as need
 
 pub returns : need.returns

@@ -1,5 +1,5 @@
-use Rattle.law.proofs.Lines.{only-submits-take}
-use Rattle.law.proofs.Rightly.{taken-in-turn}
+use Rattle.law.proofs.LineByLine.{only-submits-take}
+use Rattle.law.proofs.TakenInTurn.{taken-in-turn}
 use Rattle.law.proofs.runs.show_taken_in_turn.Needs as need
 
 pub returns : need.returns

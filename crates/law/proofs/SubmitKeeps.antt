@@ -23,13 +23,13 @@ use Rattle.law.specs.View.{Entry, View, aref-of, start-of, length-of, is, livi
 use Rattle.law.specs.Places.{seat, change, some, in-state, due-at, leave, new-record}
 use Rattle.law.specs.Posting.{post, by-day, each-day, holding, free-on}
 use Rattle.law.specs.Preemption.{short, taken, meets-shortage, grant, supersede, give, supersede-all, give-all, empty}
-use Rattle.law.proofs.Support.{Supp, supp-post, supp-into, days-ind}
+use Rattle.law.proofs.Holders.{Supp, supp-post, supp-into, days-ind}
 use Rattle.law.proofs.Finds.{Tame, find-map, find-aref, count-map, count-none, count-seat, find-seat, find-seat-other, find-count}
-use Rattle.law.proofs.Later.{each-true}
-use Rattle.law.proofs.Places.{all-find}
-use Rattle.law.proofs.Turn.{find-in}
-use Rattle.law.proofs.Whole.{Whole, Within, Apart, Holding, Siding, Facing, supp-map, is-find, is-found}
-use Rattle.law.proofs.Calls.{none-false, not-empty}
+use Rattle.law.proofs.ShrinkingShortage.{each-true}
+use Rattle.law.proofs.AllPlaces.{all-find}
+use Rattle.law.proofs.DefendersInTurn.{find-in}
+use Rattle.law.proofs.HoldersInPlaces.{Whole, Within, Apart, Holding, Siding, Facing, supp-map, is-find, is-found}
+use Rattle.law.proofs.LaterCallsKeep.{none-false, not-empty}
 
 abbrev Of : Request → ℕ → Type 0
 Of r k = (r .start ≤ k) × (k < r .start + r .length)
@@ -207,7 +207,7 @@ module _ (R : Rules) (t : ℕ) (r : Request) (v : View) (ms : List Line) where
       go true false d u m = ((refl, w .1, w .2), refl, refl)
       go false b d u m = absurd (false≢true u)
 
-  -- exactly what it holding become
+  -- exactly what it has become
   pub ch-after : (a k : ℕ) → 0 < balance ms (aside a (r .aref)) k → Within (v .places) a k → p (find a (v .places)) ≡ true →
       g (find a (v .places)) ≡ record { standing = record { request = find a (v .places) .standing .request; state = Challenged; queued = find a (v .places) .standing .queued }; due = R .answer-by r (find a (v .places) .standing) t (v .days); against = r .aref }
   ch-after a k q w h = go (p (find a (v .places))) (Preemption.none-aside ms (r .aref) (find a (v .places))) (empty ms (find a (v .places))) h refl

@@ -32,15 +32,15 @@ use Rattle.law.specs.Opened.{opened}
 use Rattle.law.specs.Keeps.{Termed}
 use Rattle.law.specs.TurnLaw.{Taken-in-turn, Rightly-taken, Open-to, Earlier, Earlier-bare}
 use Rattle.law.proofs.Finds.{find-count, find-aref}
-use Rattle.law.proofs.Places.{all-kept, all-in-turn, all-find}
-use Rattle.law.proofs.Later.{Later, later-trans, Given-up, shorter}
-use Rattle.law.proofs.Writes.{Writes, at-first, writes-split}
-use Rattle.law.proofs.Turn.{all-mem, Sorted, Different, sorted-in-turn, sorted-split, in-turn-in, kept-in, find-in}
-use Rattle.law.proofs.Preempt.{Fact, Told, Took, Ousted, writes-grant, writes-preempt}
-use Rattle.law.proofs.Whole.{Whole, Holding}
-use Rattle.law.proofs.Keeps.{Holds, holds, holds-stop, holds-if, holds-written, holds-map, refuses, defenders-stand, defends-lives, all-found}
-use Rattle.law.proofs.Steps.{Sound}
-use Rattle.law.proofs.Right.{Right, right-at, terms-at}
+use Rattle.law.proofs.AllPlaces.{all-kept, all-in-turn, all-find}
+use Rattle.law.proofs.ShrinkingShortage.{Later, later-trans, Given-up, shorter}
+use Rattle.law.proofs.WrittenLines.{Writes, at-first, writes-split}
+use Rattle.law.proofs.DefendersInTurn.{all-mem, Sorted, Different, sorted-in-turn, sorted-split, in-turn-in, kept-in, find-in}
+use Rattle.law.proofs.PreemptionLines.{Fact, Told, Took, Ousted, writes-grant, writes-preempt}
+use Rattle.law.proofs.HoldersInPlaces.{Whole, Holding}
+use Rattle.law.proofs.EveryCallKeeps.{Holds, holds, holds-stop, holds-if, holds-written, holds-map, refuses, defenders-stand, defends-lives}
+use Rattle.law.proofs.SoundSteps.{Sound}
+use Rattle.law.proofs.KeptOverRuns.{Right, right-at, terms-at}
 use Rattle.law.proofs.Terms.{living-possible, found-possible}
 
 -- no two living records of one AREF
@@ -152,7 +152,7 @@ module _ (R : Rules) (L : Lawful R) (p : ℕ → ℕ) (v : View) (I : Right p v)
           let m = before (T .pre) (T .rest) (T .giver) (T .split) (l .a) (T .from-giver) f (defends-lives R t r v (T .giver) (s .1)) e o E in
           bare e (l .day) ms (all-mem (λ x. Given-up r x ms) (T .pre) (find e (v .places)) (T .done) m) o La (T .is-short)))
 
-    -- a defender earlier in turn than a is-pending one is is-pending
+    -- a defender earlier in turn than a pending one is pending
     also-pending : (d : Entry) → Possible (d .standing .request) → is-pending (d .standing .state) ≡ true → (e : ℕ) → Open-to R t r v e → (aref-of (find e (v .places)) ≡ aref-of d → ⊥) → R .gives-before (find e (v .places) .standing) (d .standing) ≡ true → is-pending (find e (v .places) .standing .state) ≡ true
     also-pending d possible pd e o ne h = go (or-cases (is-pending (find e (v .places) .standing .state)) (is-confirmed (find e (v .places) .standing .state)) (and-parts (is-pending (find e (v .places) .standing .state) || is-confirmed (find e (v .places) .standing .state)) _ o .0))
       where

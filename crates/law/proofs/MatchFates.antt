@@ -34,20 +34,20 @@ use Rattle.law.specs.Opened.{opened}
 use Rattle.law.specs.Keeps.{Termed}
 use Rattle.law.specs.TurnLaw.{Is-checked, is-submit}
 use Rattle.law.specs.MatchLaw.{noted, comes-back, goes-over, Wholly-aside, Wholly-kept, Wholly-lost, Came-back, Went-over, One-fate, Only-one-fate}
-use Rattle.law.proofs.Finds.{Tame, find-map, find-aref, find-count, find-seat, find-seat-other, count-none}
-use Rattle.law.proofs.Places.{all-find, all-due}
-use Rattle.law.proofs.Support.{Supp}
-use Rattle.law.proofs.Turn.{find-in}
-use Rattle.law.proofs.Whole.{Whole, Within, Apart, Holding, tame-change, is-find, is-found, not-both, not-competing}
-use Rattle.law.proofs.Calls.{Found, found-by, none-false, supp-lost, lost-zero, kept-zero}
-use Rattle.law.proofs.Entering.{some-in}
-use Rattle.law.proofs.Keeps.{Holds, holds, holds-stop, holds-if, holds-written, holds-map, holds-and, refuses, all-found, supp-preempt, defends-lives, top-grows}
-use Rattle.law.proofs.Steps.{Sound}
-use Rattle.law.proofs.Right.{Right, right-step, right-run, right-at}
-use Rattle.law.proofs.Writes.{Writes}
+use Rattle.law.proofs.Finds.{all-found, Tame, find-map, find-aref, find-count, find-seat, find-seat-other, count-none}
+use Rattle.law.proofs.AllPlaces.{all-find, all-due}
+use Rattle.law.proofs.Holders.{Supp}
+use Rattle.law.proofs.DefendersInTurn.{find-in}
+use Rattle.law.proofs.HoldersInPlaces.{Whole, Within, Apart, Holding, tame-change, is-find, is-found, not-both, not-competing}
+use Rattle.law.proofs.LaterCallsKeep.{Found, found-by, none-false, supp-lost, lost-zero, kept-zero}
+use Rattle.law.proofs.SubmitKeeps.{some-in}
+use Rattle.law.proofs.EveryCallKeeps.{Holds, holds, holds-stop, holds-if, holds-written, holds-map, holds-and, refuses, supp-preempt, defends-lives, top-grows}
+use Rattle.law.proofs.SoundSteps.{Sound}
+use Rattle.law.proofs.KeptOverRuns.{Right, right-step, right-run, right-at}
+use Rattle.law.proofs.WrittenLines.{Writes}
 use Rattle.law.proofs.Terms.{found-possible, terms-step, days-stay}
-use Rattle.law.proofs.Paid.{Sane, subject, Pays, pays-made, pays-step}
-use Rattle.law.proofs.Quiet.{quiet, lost-tally, kept-tally, extend-tally}
+use Rattle.law.proofs.LinesOfCalls.{Sane, subject, Pays, pays-made, pays-step}
+use Rattle.law.proofs.QuietMatches.{quiet, lost-tally, kept-tally, extend-tally}
 
 find-other : (x : ℕ) (f : Entry → Entry) → ((e : Entry) → is x e ≡ true → aref-of (f e) ≡ x) → (es : List Entry) (c : ℕ) → living (find c es) ≡ true → (x ≡ c → ⊥) → find c (change x f es) ≡ find c es
 find-other x f named es c l ne =
@@ -59,7 +59,7 @@ find-same x f named es l m =
     let q = cond-true (is x (find x es)) (f (find x es)) (find x es) (is-found x es l) in
     find-map (λ e. cond (is x e) (f e) e) (tame-change x f named) x es l (ap living q ∙ m) ∙ q
 
--- e is is-challenged by the request r, owner record is c
+-- e is challenged by the request r, whose record is c
 pub record Facing-off (R : Rules) (r : Request) (last : ℕ) (e c : Entry) : Type 0 where
   pub lives : living e ≡ true
   pub chal : is-challenged (e .standing .state) ≡ true
@@ -104,7 +104,7 @@ module _ (R : Rules) (L : Lawful R) (r : Request) (last : ℕ) (s : ℕ → ℕ)
     open-now : (fs : List Entry) → find a fs ≡ find a (v .places) → Places.match-open fs ≡ true
     open-now fs q = some-in _ fs (find a fs) (find-in a fs (ap living q ∙ F .lives)) (ap (λ e. is-challenged (e .standing .state)) q ∙ F .chal)
 
-    -- a record that is is-pending or is-confirmed is neither of the two
+    -- a record that is pending or confirmed is neither of the two
     neither : (x : ℕ) → (is-pending (find x (v .places) .standing .state) ≡ true) ⊎ (is-confirmed (find x (v .places) .standing .state) ≡ true) → (x ≡ a → ⊥) × (x ≡ r .aref → ⊥)
     neither x h =
         let n = not-both (find x (v .places) .standing .state) h in
@@ -117,7 +117,7 @@ module _ (R : Rules) (L : Lawful R) (r : Request) (last : ℕ) (s : ℕ → ℕ)
     abbrev pub After : ℕ → ℕ → List Line → List Entry → Type 0
     After t x ls fs = (Still fs × (x ≡ a → ⊥)) ⊎ ((Wholly-kept s a (r .aref) ls × (t ≤ last) × (R .outranks r (find a fs .standing) ≡ false)) ⊎ Wholly-lost s a (r .aref) ls)
 
-    -- of another record x, is-challenged too: the challenger does not close
+    -- of another record x, challenged too: the challenger does not close
     after-other : (t x : ℕ) (f : Entry → Entry) (ls : List Line) (y : ℕ) → ((e : Entry) → is x e ≡ true → aref-of (f e) ≡ x) → (x ≡ a → ⊥) → (x ≡ r .aref → ⊥) → Still (Calls.close-if-last R t ls y (change x f (v .places)))
     after-other t x f ls y named na nb =
         subst Still (sym (cond-true (Places.match-open (change x f (v .places))) (change x f (v .places)) _ (open-now (change x f (v .places)) (find-other x f named (v .places) a (F .lives) na)))) (still-change x f named na nb)

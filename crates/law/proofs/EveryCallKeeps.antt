@@ -27,12 +27,12 @@ use Rattle.law.specs.Calls.{Call, submit, confirm, withdraw, match, decline, s
 use Rattle.law.specs.Places.{some}
 use Rattle.law.specs.Opened.{opened}
 use Rattle.law.specs.Posting.{by-day}
-use Rattle.law.proofs.Finds.{Tame, find-count, count-none}
-use Rattle.law.proofs.Places.{all-find, all-kept, all-in-turn, all-due}
-use Rattle.law.proofs.Whole.{Whole, Within, Apart, Holding}
-use Rattle.law.proofs.Calls.{Found, found-by, none-false, whole-confirm, whole-let-go, whole-flew, whole-declined, whole-matched}
-use Rattle.law.proofs.Entering.{Hold⁺, Side⁺, fit-preempt, whole-granted, whole-preempted, tame-after, pr}
-use Rattle.law.proofs.Support.{Supp, supp-into}
+use Rattle.law.proofs.Finds.{Tame, find-count, count-none, all-found}
+use Rattle.law.proofs.AllPlaces.{all-find, all-kept, all-in-turn, all-due}
+use Rattle.law.proofs.HoldersInPlaces.{Whole, Within, Apart, Holding}
+use Rattle.law.proofs.LaterCallsKeep.{Found, found-by, none-false, whole-confirm, whole-let-go, whole-flew, whole-declined, whole-matched}
+use Rattle.law.proofs.SubmitKeeps.{Hold⁺, Side⁺, fit-preempt, whole-granted, whole-preempted, tame-after, pr}
+use Rattle.law.proofs.Holders.{Supp, supp-into}
 
 -- what holds of the lines and places that a call makes
 unfoldable pub Holds : (List Line → List Entry → Type 0) → Made → Type 0
@@ -91,19 +91,6 @@ written-top c v (makes ls es a s) h = go (ltb (v .room) (length ls))
     go : (b : Bool) → v .top ≤ (cond {A = Calls.Answer × View} b (Calls.refusal JournalFull, v) (Calls.done a s (length (v .lines)) (length ls - length (v .lines)), record { days = v .days; room = v .room; lines = ls; places = es; clock = Calls.minute-of c; top = new-top c (v .top) })) .1 .top
     go true = omega arith
     go false = h
-
--- each living record is the one found under its AREF
-pub all-found : (es : List Entry) → ((a : ℕ) → count a es ≤ 1) → All (λ e. living e ≡ true → find (aref-of e) es ≡ e) es
-unfolding find count
-all-found [] o = tt
-all-found (x ∷ xs) o = ((λ l. rw (and-from (living x) (eqb (aref-of x) (aref-of x)) l (eq-eqb (aref-of x) (aref-of x) refl)) refl),
-    all-weaker _ _ (λ e h l. tail e (h l) l (cases-bool (is (aref-of e) x))) xs (all-found xs (λ a. omega (arith, o a))))
-  where
-    tail : (e : Entry) → find (aref-of e) xs ≡ e → living e ≡ true → (is (aref-of e) x ≡ true) ⊎ (is (aref-of e) x ≡ false) → cond (is (aref-of e) x) x (find (aref-of e) xs) ≡ e
-    tail e h l (inl q) =
-        let c = find-count (aref-of e) xs (ap living h ∙ l) in
-        let w = o (aref-of e) in let y = rw q at w in let b : ⊥ = omega arith in absurd b
-    tail e h l (inr q) = rw q h
 
 pub some-map : (g : Entry → Entry) → Tame g → (es : List Entry) → some (λ e. is-gone (e .standing .state)) es ≡ true → some (λ e. is-gone (e .standing .state)) (map g es) ≡ true
 unfolding some

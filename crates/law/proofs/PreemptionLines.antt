@@ -21,9 +21,9 @@ use Rattle.journal.specs.Accounts.{Account, free, held, aside, balance, Never-b
 use Rattle.law.specs.View.{Entry, aref-of, start-of, length-of}
 use Rattle.law.specs.Posting.{post, by-day, each-day, holding, free-on}
 use Rattle.law.specs.Preemption.{taken, short, meets-shortage, supersede, give, grant, supersede-all, give-all}
-use Rattle.law.proofs.Later.{Later, later-refl, later-trans, later-granted, later-given, later-superseded, later-give, later-supersede, shorter, Given-up, given-up-later, In-term, give-up, supersede-up, each-false}
-use Rattle.law.proofs.Support.{days-ind}
-use Rattle.law.proofs.Writes.{Writes, at-first, and-then, writes-trans, writes-post, writes-days, writes-grows}
+use Rattle.law.proofs.ShrinkingShortage.{Later, later-refl, later-trans, later-granted, later-given, later-superseded, later-give, later-supersede, shorter, Given-up, given-up-later, In-term, give-up, supersede-up, each-false}
+use Rattle.law.proofs.Holders.{days-ind}
+use Rattle.law.proofs.WrittenLines.{Writes, at-first, and-then, writes-trans, writes-post, writes-days, writes-grows}
 
 post-is : (t : ℕ) (κ : LineKind) (a b k m : ℕ) (ls : List Line) → 0 < m → post t κ a b k m ls ≡ ls ++ record { minute = t; kind = κ; a = a; b = b; day = k; mw = m } ∷ []
 unfolding post

@@ -27,11 +27,11 @@ use Rattle.law.specs.Calls.{Call, submit, confirm, withdraw, match, decline, s
 use Rattle.law.specs.Posting.{post, by-day, holding, free-on}
 use Rattle.law.specs.MatchLaw.{noted}
 use Rattle.law.specs.TurnLaw.{is-submit}
-use Rattle.law.proofs.Fine.{nbz-push, takes-le, cond-never, same-is}
-use Rattle.law.proofs.Posts.{balance-push}
-use Rattle.law.proofs.Support.{days-ind}
-use Rattle.law.proofs.Writes.{Writes, at-first, and-then, writes-trans, writes-post}
-use Rattle.law.proofs.Keeps.{Holds, holds, holds-stop, holds-if, holds-written, holds-map, refuses}
+use Rattle.law.proofs.SoundLines.{nbz-push, takes-le, cond-never, same-is}
+use Rattle.law.proofs.PostingEffects.{balance-push}
+use Rattle.law.proofs.Holders.{days-ind}
+use Rattle.law.proofs.WrittenLines.{Writes, at-first, and-then, writes-trans, writes-post}
+use Rattle.law.proofs.EveryCallKeeps.{Holds, holds, holds-stop, holds-if, holds-written, holds-map, refuses}
 
 -- q says whether the call is a submit, n is the highest AREF before it, x the AREF that it is about
 abbrev pub Okay : Bool → ℕ → ℕ → LineKind → ℕ → ℕ → Type 0

@@ -27,13 +27,13 @@ use Rattle.law.specs.Places.{match-open}
 use Rattle.law.specs.Opened.{opened}
 use Rattle.law.specs.Calls.{Made, refused, makes, submit, stop-if, if-so, entered, asked, written, step, run}
 use Rattle.law.specs.BeginsLaw.{somebody-gives-way, Gave-way-since, Not-stopped, Preemption-due, Begins-exactly-when-due}
-use Rattle.law.proofs.Fine.{cond-never}
-use Rattle.law.proofs.Keeps.{Holds, holds, holds-stop, holds-if, defenders-stand}
-use Rattle.law.proofs.Later.{each-true, each-false}
-use Rattle.law.proofs.Right.{Right, right-at}
-use Rattle.law.proofs.Whole.{Holding}
-use Rattle.law.proofs.Posts.{balance-post, less-post, more-post, taken-post}
-use Rattle.law.proofs.Support.{days-ind, nbz-post}
+use Rattle.law.proofs.SoundLines.{cond-never}
+use Rattle.law.proofs.EveryCallKeeps.{Holds, holds, holds-stop, holds-if, defenders-stand}
+use Rattle.law.proofs.ShrinkingShortage.{each-true, each-false}
+use Rattle.law.proofs.KeptOverRuns.{Right, right-at}
+use Rattle.law.proofs.HoldersInPlaces.{Holding}
+use Rattle.law.proofs.PostingEffects.{balance-post, less-post, more-post, taken-post}
+use Rattle.law.proofs.Holders.{days-ind, nbz-post}
 
 -- lines of one kind, a line for each day of 1 MW or more
 module _ (t : ℕ) (κ : LineKind) (a b : ℕ) (amount : ℕ → List Line → ℕ) where

@@ -28,18 +28,18 @@ use Rattle.law.specs.Opened.{opened}
 use Rattle.law.specs.Keeps.{Termed}
 use Rattle.law.specs.MatchLaw.{noted, comes-back, goes-over, Wholly-aside, Wholly-kept, Wholly-lost, One-fate, Only-one-fate}
 use Rattle.law.proofs.Finds.{find-map, find-count, find-seat, find-seat-other, count-none, count-map}
-use Rattle.law.proofs.Places.{all-find}
-use Rattle.law.proofs.Turn.{find-in}
-use Rattle.law.proofs.Whole.{Whole, Within, Apart}
-use Rattle.law.proofs.Calls.{none-false}
-use Rattle.law.proofs.Entering.{Side⁺, some-in, whole-granted, tame-after, ch-after, g, pr}
-use Rattle.law.proofs.Keeps.{Holds, holds, holds-stop, holds-if, holds-written, some-map, supp-preempt}
-use Rattle.law.proofs.Steps.{Sound}
-use Rattle.law.proofs.Right.{Right, right-step, right-at, terms-at}
+use Rattle.law.proofs.AllPlaces.{all-find}
+use Rattle.law.proofs.DefendersInTurn.{find-in}
+use Rattle.law.proofs.HoldersInPlaces.{Whole, Within, Apart}
+use Rattle.law.proofs.LaterCallsKeep.{none-false}
+use Rattle.law.proofs.SubmitKeeps.{Side⁺, some-in, whole-granted, tame-after, ch-after, g, pr}
+use Rattle.law.proofs.EveryCallKeeps.{Holds, holds, holds-stop, holds-if, holds-written, some-map, supp-preempt}
+use Rattle.law.proofs.SoundSteps.{Sound}
+use Rattle.law.proofs.KeptOverRuns.{Right, right-step, right-at, terms-at}
 use Rattle.law.proofs.Terms.{found-possible, checked-possible, terms-step, days-stay}
-use Rattle.law.proofs.Paid.{pays-step}
-use Rattle.law.proofs.Quiet.{mute, noted-none}
-use Rattle.law.proofs.Fates.{Facing-off, Open, fate}
+use Rattle.law.proofs.LinesOfCalls.{pays-step}
+use Rattle.law.proofs.QuietMatches.{mute, noted-none}
+use Rattle.law.proofs.MatchFates.{Facing-off, Open, fate}
 
 module _ (R : Rules) (L : Lawful R) (p : ℕ → ℕ) (v : View) (I : Right p v) (terms : All (Termed (v .days)) (v .places)) (t : ℕ) (r : Request) (possible : Possible r) (a day : ℕ) where
   abbrev Begins : List Line → List Entry → Type 0

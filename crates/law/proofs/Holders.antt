@@ -12,8 +12,8 @@ use Rattle.journal.specs.declared.line.LineKind.{LineKind}
 use Rattle.journal.specs.Accounts.{Account, outside, free, flown, held, aside, sort, same, from, to, source, balance, Never-below-zero}
 use Rattle.journal.proofs.Conservation.{never-overdrawn}
 use Rattle.law.specs.Posting.{post, by-day, holding}
-use Rattle.law.proofs.Fine.{nbz-push, takes-le, same-is}
-use Rattle.law.proofs.Posts.{balance-post}
+use Rattle.law.proofs.SoundLines.{nbz-push, takes-le, same-is}
+use Rattle.law.proofs.PostingEffects.{balance-post}
 
 -- for each day: what every day keeps, and what each day brings about and the others leave
 pub days-ind : (f : ℕ → List Line → List Line) (P : List Line → Type 0) (s d : ℕ) → ((k : ℕ) (ls : List Line) → s ≤ k → k < s + d → P ls → P (f k ls)) → (ls : List Line) → P ls → P (by-day f s d ls)
@@ -60,7 +60,7 @@ Allowed H A k (held a) = H a k
 Allowed H A k (aside a b) = A a b k
 
 module _ (H : ℕ → ℕ → Type 0) (A : ℕ → ℕ → ℕ → Type 0) where
-  -- an account that holding MW after a posting had some before, or the posting brought them
+  -- an account that has MW after a posting had some before, or the posting brought them
   had : (ls : List Line) (f : Never-below-zero ls) (t : ℕ) (κ : LineKind) (a b k m : ℕ) → m ≤ balance ls (from κ a b) k → (0 < m → Allowed H A k (to κ a b)) →
       (x : Account) (j : ℕ) → 0 < sort x → (0 < balance ls x j → Allowed H A j x) → 0 < balance (post t κ a b k m ls) x j → Allowed H A j x
   had ls f t κ a b k m paid w x j r old p = go (cases-lt 0 (balance ls x j)) (cases-bool (eqb k j && same x (to κ a b)))

@@ -23,9 +23,9 @@ use Rattle.journal.specs.Accounts.{Account, free, held, aside, balance, Never-b
 use Rattle.law.specs.View.{Entry, aref-of, start-of, length-of, is, living, find, count}
 use Rattle.law.specs.Preemption.{gives-before, in-turn, taken, short, supersede, give, grant, supersede-all, give-all}
 use Rattle.law.specs.Posting.{post, by-day, holding, free-on}
-use Rattle.law.proofs.Places.{all-in-turn}
-use Rattle.law.proofs.Later.{Later, later-refl, later-trans, later-granted, later-given, later-give, later-supersede, shorter, Given-up, given-up-later, In-term, give-up, supersede-up}
-use Rattle.law.proofs.Writes.{Writes, at-first, and-then, writes-trans, writes-post, writes-days, writes-split}
+use Rattle.law.proofs.AllPlaces.{all-in-turn}
+use Rattle.law.proofs.ShrinkingShortage.{Later, later-refl, later-trans, later-granted, later-given, later-give, later-supersede, shorter, Given-up, given-up-later, In-term, give-up, supersede-up}
+use Rattle.law.proofs.WrittenLines.{Writes, at-first, and-then, writes-trans, writes-post, writes-days, writes-split}
 
 pub all-mem : (P : Entry → Type 0) (es : List Entry) (x : Entry) → All P es → List·Memᴰ x es → P x
 all-mem P [] x h m = elim m [ ]

@@ -19,9 +19,9 @@ use Rattle.journal.specs.Accounts.{Account, outside, free, flown, held, aside, 
 use Rattle.law.specs.Preemption.{wanted, taken, short, meets-shortage, supersede, give, grant, brings-challenger}
 use Rattle.law.specs.View.{Entry, aref-of, start-of, length-of}
 use Rattle.law.specs.Posting.{post, by-day, each-day, holding, free-on}
-use Rattle.law.proofs.Fine.{cond-never}
-use Rattle.law.proofs.Posts.{balance-post, less-post, from-post, taken-post, day-post}
-use Rattle.law.proofs.Support.{days-ind, days-each, nbz-post}
+use Rattle.law.proofs.SoundLines.{cond-never}
+use Rattle.law.proofs.PostingEffects.{balance-post, less-post, from-post, taken-post, day-post}
+use Rattle.law.proofs.Holders.{days-ind, days-each, nbz-post}
 
 gives-out : (h h′ m s s′ k k′ mw : ℕ) (c : Bool) → h′ + m ≡ h → s′ ≡ s → k′ ≡ k + m → m ≡ min h (cond c (mw - (s + k)) 0) → 0 < cond c (mw - (s′ + k′)) 0 → h′ ≡ 0
 gives-out h h′ m s s′ k k′ mw true a b c d e = omega arith

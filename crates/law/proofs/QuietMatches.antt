@@ -16,11 +16,11 @@ use Rattle.journal.proofs.Conservation.{never-overdrawn}
 use Rattle.law.specs.Posting.{post, by-day, holding, free-on}
 use Rattle.law.specs.Calls.{lose, keep, extend}
 use Rattle.law.specs.MatchLaw.{noted, comes-back, goes-over}
-use Rattle.law.proofs.Fine.{nbz-push, takes-le, cond-never, same-is}
-use Rattle.law.proofs.Posts.{balance-push, balance-post}
-use Rattle.law.proofs.Support.{days-ind, nbz-post}
-use Rattle.law.proofs.Writes.{Writes, at-first, and-then}
-use Rattle.law.proofs.Paid.{Okay, Sane}
+use Rattle.law.proofs.SoundLines.{nbz-push, takes-le, cond-never, same-is}
+use Rattle.law.proofs.PostingEffects.{balance-push, balance-post}
+use Rattle.law.proofs.Holders.{days-ind, nbz-post}
+use Rattle.law.proofs.WrittenLines.{Writes, at-first, and-then}
+use Rattle.law.proofs.LinesOfCalls.{Okay, Sane}
 
 pub noted-push : (p : LineKind → Bool) (a b k : ℕ) (ls : List Line) (l : Line) → noted p a b k (ls ++ l ∷ []) ≡ noted p a b k ls + cond (p (l .kind) && (eqb (l .day) k && (eqb b (l .b) && eqb a (l .a)))) (l .mw) 0
 unfolding noted
@@ -133,7 +133,7 @@ noted-none p n a b k (l ∷ ls) h A =
     never true false = refl
     never false d = refl
 
--- a match that is goes-over, or comes-back: what is noted and what is still aside add up
+-- a match that is lost, or kept: what is noted and what is still aside add up
 module _ (t a b : ℕ) (ls : List Line) (f : Never-below-zero ls) where
   pub lost-tally : (s d : ℕ) → Never-below-zero (by-day (lose t a b) s d ls) × ((k : ℕ) → (noted goes-over a b k (by-day (lose t a b) s d ls) + balance (by-day (lose t a b) s d ls) (aside a b) k ≡ noted goes-over a b k ls + balance ls (aside a b) k) × (noted comes-back a b k (by-day (lose t a b) s d ls) ≡ noted comes-back a b k ls))
   lost-tally s d = days-ind (lose t a b) (λ ms. Never-below-zero ms × ((k : ℕ) → (noted goes-over a b k ms + balance ms (aside a b) k ≡ noted goes-over a b k ls + balance ls (aside a b) k) × (noted comes-back a b k ms ≡ noted comes-back a b k ls))) s d

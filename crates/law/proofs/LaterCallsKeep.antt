@@ -24,12 +24,12 @@ use Rattle.law.specs.Places.{change, some, in-state, due-at, leave}
 use Rattle.law.specs.Posting.{post, by-day, each-day, holding, free-on}
 use Rattle.law.specs.Calls.{release, fly, lose, keep, extend}
 use Rattle.law.specs.Preemption.{empty}
-use Rattle.law.proofs.Posts.{from-post, less-post}
-use Rattle.law.proofs.Support.{Supp, supp-post, supp-into, days-ind, days-each, nbz-post}
+use Rattle.law.proofs.PostingEffects.{from-post, less-post}
+use Rattle.law.proofs.Holders.{Supp, supp-post, supp-into, days-ind, days-each, nbz-post}
 use Rattle.law.proofs.Finds.{Tame, find-aref, count-map}
-use Rattle.law.proofs.Later.{each-true}
-use Rattle.law.proofs.Places.{all-find}
-use Rattle.law.proofs.Whole.{Whole, Within, Apart, Holding, Siding, Facing, supp-change, tame-change, plain, not-competing}
+use Rattle.law.proofs.ShrinkingShortage.{each-true}
+use Rattle.law.proofs.AllPlaces.{all-find}
+use Rattle.law.proofs.HoldersInPlaces.{Whole, Within, Apart, Holding, Siding, Facing, supp-change, tame-change, plain, not-competing}
 
 -- e is the living record of its AREF
 abbrev pub Found : List Entry → Entry → Type 0
@@ -57,7 +57,7 @@ module _ (es : List Entry) (ls : List Line) (W : Whole ls es) where
         (λ k q w. (l, (refl, w .1, w .2))) (λ c k ne w. w) (λ b c k q w. plain es a (inl p) b c k w) S;
       once = λ c. omega (arith, W .once c, count-map _ (tame-change a Places.stand-confirmed (λ e q. eqb-true (aref-of e) a (and-parts (living e) (eqb (aref-of e) a) q .1))) c es) }
 
-  -- all that e holds leaves it, and e is is-gone
+  -- all that e holds leaves it, and e is gone
   whole-leave : (e : Entry) (f : ℕ → List Line → List Line) → Found es e → (is-pending (e .standing .state) ≡ true) ⊎ (is-confirmed (e .standing .state) ≡ true) →
       ((k : ℕ) (ms : List Line) → Supp (Within es) (Apart es) ms → Supp (Within es) (Apart es) (f k ms)) →
       ((k : ℕ) (ms : List Line) → Never-below-zero ms → holding (f k ms) (aref-of e) k ≡ 0) →

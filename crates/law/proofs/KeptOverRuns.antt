@@ -15,13 +15,14 @@ use Rattle.law.specs.Keeps.{Kept, Termed}
 use Rattle.law.specs.Opened.{postings, opened}
 use Rattle.law.specs.Calls.{Call, step, run}
 use Rattle.law.specs.TurnLaw.{Is-checked}
+use Rattle.law.specs.KeepsLaw.{Every-call-keeps}
 use Rattle.law.proofs.Finds.{count-nobody}
 use Rattle.law.proofs.OpenedKeeps.{all-alike}
 use Rattle.law.proofs.Postings.{postings-elsewhere}
 use Rattle.law.proofs.OwnSums.{Accounted}
-use Rattle.law.proofs.Whole.{Whole}
-use Rattle.law.proofs.Keeps.{whole-step}
-use Rattle.law.proofs.Steps.{Sound, sound-step, sound-opened}
+use Rattle.law.proofs.HoldersInPlaces.{Whole}
+use Rattle.law.proofs.EveryCallKeeps.{whole-step}
+use Rattle.law.proofs.SoundSteps.{Sound, sound-step, sound-opened}
 use Rattle.law.proofs.Terms.{terms-step, days-stay}
 
 -- the accounts are sound with p posted, and whoever holds MW stands in the places
@@ -72,3 +73,27 @@ accounted-right days v e I = record {
     challenged = λ a b day p. I .whole .supp .asides a b day p .0;
     once = I .whole .once;
     accepted = I .sound .low }
+
+right-kept : (v : View) → Kept v → Right (posted-on (v .days)) v
+right-kept v K = record {
+    sound = record { fine = record { nbz = K .solvent; names = K .named; whole = K .posted }; low = K .accepted };
+    whole = record { supp = record { nbz = K .solvent; holds = K .holders; asides = λ a b day p. (K .challenged a b day p, K .competing a b day p) }; once = K .once } }
+
+pub every-call-keeps : Every-call-keeps
+every-call-keeps R v c K h =
+    let w = step R c v .1 in
+    let I = right-step R (posted-on (v .days)) v (right-kept v K) c in
+    let e = sym (days-stay R c v) in
+    record {
+      solvent = I .sound .fine .nbz;
+      named = I .sound .fine .names;
+      posted = λ day. I .sound .fine .whole day ∙ ap (λ days. posted-on days day) e;
+      amounts = λ day. subst (λ days. posted-on days day ≤ 20000) e (K .amounts day);
+      days = subst (λ days. length (days .amounts) ≤ 400) e (K .days);
+      prescheduled = subst (λ days. length (days .preschedule) ≡ length (days .amounts)) e (K .prescheduled);
+      holders = I .whole .supp .holds;
+      challenged = λ a b day p. I .whole .supp .asides a b day p .0;
+      competing = λ a b day p. I .whole .supp .asides a b day p .1;
+      once = I .whole .once;
+      terms = subst (λ days. All (Termed days) (w .places)) e (terms-step R v (K .terms) c h);
+      accepted = I .sound .low }

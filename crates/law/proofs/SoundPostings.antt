@@ -17,7 +17,7 @@ use Rattle.law.specs.Preemption.{wanted, grant, short, meets-shortage, superse
 use Rattle.law.specs.View.{Entry, View, aref-of, start-of, length-of}
 use Rattle.law.specs.Posting.{post, by-day, holding, free-on}
 use Rattle.law.specs.Calls.{release, fly, lose, keep, extend}
-use Rattle.law.proofs.Fine.{Fine, fine-post, fine-days, fine-wider}
+use Rattle.law.proofs.SoundLines.{Fine, fine-post, fine-days, fine-wider}
 
 module _ (n : ℕ) (p : ℕ → ℕ) where
   pub fine-release : (t a s d : ℕ) (ls : List Line) → a < n → Fine n p ls → Fine n p (by-day (release t a) s d ls)

@@ -1,4 +1,4 @@
--- Whoever holds MW stands in the places, and holds them in its term; what is set aside is set aside of a is-challenged record for its challenger.
+-- Whoever holds MW stands in the places, and holds them in its term; what is set aside is set aside of a challenged record for its challenger.
 use mathlib.Core.Path.{_≡_, refl, sym, _∙_, ap, subst}
 use mathlib.Core.List.{List, [], _∷_, _++_, map}
 use mathlib.Core.Bool.{Bool, true, false, _&&_, _||_, not, cond}
@@ -12,7 +12,7 @@ use Rattle.std.proofs.shelf.Tests.{eq-eqb, ne-eqb, eqb-true, eqb-false, cases-e
 use Rattle.terms.specs.declared.request.Request.{Request}
 use Rattle.terms.specs.declared.words.State.{State}
 use Rattle.terms.specs.declared.words.State.the-variants.{Confirmed, Accepted, Offered, Competing, Challenged, Gone}
-use Rattle.terms.specs.Words.{is-pending, is-confirmed, is-challenged, is-gone}
+use Rattle.terms.specs.Words.{is-pending, is-confirmed, is-challenged, is-gone, is-competing}
 use Rattle.sheets.specs.Rules.{Rules}
 use Rattle.sheets.specs.Laws.{Lawful}
 use Rattle.journal.specs.declared.line.Line.{Line}
@@ -24,18 +24,10 @@ use Rattle.law.specs.Calls.{Made, refused, makes, release, fly, lose, keep, ex
 use Rattle.law.specs.Places.{seat, change, some, in-state, due-at, leave}
 use Rattle.law.specs.Posting.{post, by-day, each-day, holding, free-on}
 use Rattle.law.specs.Preemption.{short, grant, empty}
-use Rattle.law.proofs.Posts.{from-post, less-post}
-use Rattle.law.proofs.Support.{Supp, supp-post, supp-into, days-ind, days-each, nbz-post}
+use Rattle.law.proofs.PostingEffects.{from-post, less-post}
+use Rattle.law.proofs.Holders.{Supp, supp-post, supp-into, days-ind, days-each, nbz-post}
 use Rattle.law.proofs.Finds.{Tame, find-map, find-aref, count-map, find-count, find-seat, find-seat-other, count-seat}
-use Rattle.law.proofs.Later.{each-true}
-
-abbrev pub is-competing : State → Bool
-is-competing Confirmed = false
-is-competing Accepted = false
-is-competing Offered = false
-is-competing Competing = true
-is-competing Challenged = false
-is-competing Gone = false
+use Rattle.law.proofs.ShrinkingShortage.{each-true}
 
 abbrev pub Holding : Entry → ℕ → Type 0
 Holding e k = (living e ≡ true) × (start-of e ≤ k) × (k < start-of e + length-of e)
@@ -123,7 +115,7 @@ not-competing Competing h = absurd (false≢true h)
 not-competing Challenged h = refl
 not-competing Gone h = refl
 
--- a record that is is-pending or is-confirmed holding no part in a match
+-- a record that is pending or confirmed has no part in a match
 pub plain : (es : List Entry) (a₀ : ℕ) → (is-pending (find a₀ es .standing .state) ≡ true) ⊎ (is-confirmed (find a₀ es .standing .state) ≡ true) → (a b k : ℕ) → Apart es a b k → Apart es a b k × (a₀ ≡ a → ⊥) × (a₀ ≡ b → ⊥)
 plain es a₀ h a b k w =
     let n = not-both (find a₀ es .standing .state) h in

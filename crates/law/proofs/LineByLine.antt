@@ -19,10 +19,10 @@ use Rattle.journal.specs.Kinds.{gives-way}
 use Rattle.law.specs.Opened.{opened}
 use Rattle.law.specs.TurnLaw.{Only-submits-take, is-submit}
 use Rattle.law.specs.View.{posted-on}
-use Rattle.law.proofs.Right.{Right, right-at}
-use Rattle.law.proofs.Steps.{Sound}
-use Rattle.law.proofs.Writes.{Writes, writes-split}
-use Rattle.law.proofs.Paid.{Sane, Okay, subject, pays-step}
+use Rattle.law.proofs.KeptOverRuns.{Right, right-at}
+use Rattle.law.proofs.SoundSteps.{Sound}
+use Rattle.law.proofs.WrittenLines.{Writes, writes-split}
+use Rattle.law.proofs.LinesOfCalls.{Sane, Okay, subject, pays-step}
 
 pub nbz-take : (n : ℕ) (ls : List Line) → Never-below-zero ls → Never-below-zero (take n ls)
 nbz-take n ls f m k x p = go (cases-lt n m)

@@ -13,7 +13,7 @@ use Rattle.journal.specs.Accounts.{Account, outside, free, flown, held, aside, 
 use Rattle.journal.proofs.Conservation.{never-overdrawn}
 use Rattle.law.specs.Posting.{post, by-day}
 use Rattle.law.specs.Preemption.{taken, brings-challenger}
-use Rattle.law.proofs.Fine.{into-push, out-of-push, takes-le, nbz-push, same-is, cond-never}
+use Rattle.law.proofs.SoundLines.{into-push, out-of-push, takes-le, nbz-push, same-is, cond-never}
 
 pub same-self : (x : Account) → same x x ≡ true
 same-self outside = refl
@@ -51,11 +51,11 @@ module _ (ls : List Line) (fine : Never-below-zero ls) (t : ℕ) (κ : LineKind)
       go (inl e) = let z = eqb-true m 0 e in rw e (omega (arith, zero-cond (eqb k j && same x (from κ a b)) z, zero-cond (eqb k j && same x (to κ a b)) z))
       go (inr e) = rw e (balance-push x j h)
 
-  -- an account that the posting does not bring to holding no more than before
+  -- an account that the posting does not bring to has no more than before
   pub less-post : (x : Account) (j : ℕ) → 0 < sort x → same x (to κ a b) ≡ false → balance (post t κ a b k m ls) x j ≤ balance ls x j
   less-post x j h e = let q : cond (eqb k j && same x (to κ a b)) m 0 ≡ 0 = rw e (cond-never (eqb k j) m) in omega (arith, balance-post x j h)
 
-  -- one that it does not take from holding no less
+  -- one that it does not take from has no less
   pub more-post : (x : Account) (j : ℕ) → 0 < sort x → same x (from κ a b) ≡ false → balance ls x j ≤ balance (post t κ a b k m ls) x j
   more-post x j h e = let q : cond (eqb k j && same x (from κ a b)) m 0 ≡ 0 = rw e (cond-never (eqb k j) m) in omega (arith, balance-post x j h)
 
@@ -63,7 +63,7 @@ module _ (ls : List Line) (fine : Never-below-zero ls) (t : ℕ) (κ : LineKind)
   pub day-post : (x : Account) (j : ℕ) → 0 < sort x → (k ≡ j → ⊥) → balance (post t κ a b k m ls) x j ≡ balance ls x j
   day-post x j h ne = let e = balance-post x j h in let q = rw (ne-eqb k j ne) at e in omega arith
 
-  -- what it takes is is-gone from where it stood
+  -- what it takes is gone from where it stood
   pub from-post : 0 < sort (from κ a b) → same (from κ a b) (to κ a b) ≡ false → balance (post t κ a b k m ls) (from κ a b) k + m ≡ balance ls (from κ a b) k
   from-post h e = let w = balance-post (from κ a b) k h in let q = rw (eq-eqb k k refl, same-self (from κ a b), e) at w in omega arith
 

@@ -30,10 +30,10 @@ use Rattle.law.specs.Calls.{Call, submit, confirm, withdraw, match, decline, s
 use Rattle.law.specs.Places.{change}
 use Rattle.law.specs.Opened.{postings, opened}
 use Rattle.law.specs.Posting.{by-day}
-use Rattle.law.proofs.Fine.{Fine, fine-post, fine-days, fine-wider}
+use Rattle.law.proofs.SoundLines.{Fine, fine-post, fine-days, fine-wider}
 use Rattle.law.proofs.Postings.{postings-only, posting-solvent, posting-names, postings-bring}
-use Rattle.law.proofs.Moves.{fine-release, fine-fly, fine-grant, fine-lose, fine-keep, fine-extend, fine-preempt}
-use Rattle.law.proofs.Places.{all-find, all-change, all-seat, all-kept, all-in-turn, all-maps, all-due}
+use Rattle.law.proofs.SoundPostings.{fine-release, fine-fly, fine-grant, fine-lose, fine-keep, fine-extend, fine-preempt}
+use Rattle.law.proofs.AllPlaces.{all-find, all-change, all-seat, all-kept, all-in-turn, all-maps, all-due}
 
 abbrev small : ℕ → Entry → Type 0
 small n e = (aref-of e ≤ n) × (e .against ≤ n)
