@@ -35,7 +35,7 @@ fn tell_line(rt: &LibcRuntime, line: &Line) -> Result<(), AnyError> {
 }
 
 // The journal so far, line by line.
-pub fn tell_journal(rt: &LibcRuntime, lines: &[Line]) -> Result<(), AnyError> {
+pub(crate) fn tell_journal(rt: &LibcRuntime, lines: &[Line]) -> Result<(), AnyError> {
     println!(rt, "  minute  kind     a     b  day     MW")?;
     for line in lines {
         tell_line(rt, line)?;
@@ -61,7 +61,7 @@ fn tell_day(rt: &LibcRuntime, book: &Book<Firm>, day: u32) -> Result<(), AnyErro
 }
 
 // The four sums of days 0 to the last, and of the day after it.
-pub fn tell_days(rt: &LibcRuntime, book: &Book<Firm>, last: u32) -> Result<(), AnyError> {
+pub(crate) fn tell_days(rt: &LibcRuntime, book: &Book<Firm>, last: u32) -> Result<(), AnyError> {
     println!(rt, "  day   free   held  aside  flown")?;
     for day in 0..=last {
         tell_day(rt, book, day)?;
@@ -109,7 +109,7 @@ fn tell_refused(rt: &LibcRuntime) -> Result<(), AnyError> {
 }
 
 // Opens the book and tells it.
-pub fn tell(rt: &LibcRuntime) -> Result<(), AnyError> {
+pub(crate) fn tell(rt: &LibcRuntime) -> Result<(), AnyError> {
     let amounts = [0, 125, 150, 110, 60, 60];
     let preschedule = [0, 0, 1, 2, 3, 4];
     let mut free = [0; 6];

@@ -21,7 +21,7 @@ pub impl fmt::Display for Until as UntilDisplay {
     }
 }
 
-pub fn state_word(state: State) -> &'static str {
+pub(crate) fn state_word(state: State) -> &'static str {
     match state {
         State::Confirmed => "confirmed",
         State::Accepted => "accepted",
@@ -32,7 +32,7 @@ pub fn state_word(state: State) -> &'static str {
     }
 }
 
-pub fn product_word(product: Product) -> &'static str {
+pub(crate) fn product_word(product: Product) -> &'static str {
     match product {
         Product::Daily => "daily",
         Product::Weekly => "weekly",
@@ -40,6 +40,6 @@ pub fn product_word(product: Product) -> &'static str {
     }
 }
 
-pub fn yes_or_no(yes: bool) -> &'static str {
+pub(crate) fn yes_or_no(yes: bool) -> &'static str {
     if yes { "yes" } else { "no" }
 }

@@ -136,7 +136,7 @@ fn tell_turns(
 }
 
 // Tells the week from beginning to end.
-pub fn tell(rt: &LibcRuntime) -> Result<(), AnyError> {
+pub(crate) fn tell(rt: &LibcRuntime) -> Result<(), AnyError> {
     println!(
         rt,
         "The second owner's week: a line of 150 MW with firm service, full on days 7 to 9."

@@ -3,7 +3,7 @@ ghost use mathlib.Core.Path.{_≡_};
 ghost use Rattle.std.specs.declared.option.Option.the-variants.{Some, None};
 ghost use Rattle.terms.specs.Numbers.{kind-number, kind-of, product-number, product-of, state-number, mark-of};
 ghost use Rattle.terms.specs.Limits.{sold-length};
-ghost use Rattle.terms.specs.Words.{is-pending, is-confirmed, is-living, is-network};
+ghost use Rattle.terms.specs.Words.{is-pending, is-confirmed, is-challenged, is-living, is-network};
 
 // Point-to-point or network service.
 #[derive(Clone, Copy, PartialEq, Eq)]
@@ -124,6 +124,15 @@ impl State {
     {
         match self {
             State::Confirmed => true,
+            _ => false,
+        }
+    }
+
+    pub fn is_challenged(self) -> bool
+        ensures { λ r. ⌜ r ≡ is-challenged self ⌝ }
+    {
+        match self {
+            State::Challenged => true,
             _ => false,
         }
     }
