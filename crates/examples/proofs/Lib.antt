@@ -1,0 +1,4 @@
+pub mod AlwaysOpenLaws
+pub mod Works
+pub mod Stages
+pub mod Witnessed

@@ -1,0 +1,3 @@
+pub mod AlwaysOpen
+pub mod Worked
+pub mod Witness
