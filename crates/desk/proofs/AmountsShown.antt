@@ -41,7 +41,7 @@ shown start day amounts B same inside = go (cases-bool (leb start day && ltb (da
 module _ (v : View) (K : Kept v) (day : ℕ) where
   -- what is known of a record in its place
   abbrev pub Stands : Record → Type 0
-  Stands r = Shows (v .lines) r × (living (entry-of r) ≡ true → find (aref-of (entry-of r)) (v .places) ≡ entry-of r) × Termed (v .days) (entry-of r)
+  Stands r = Shows (balance (v .lines)) r × (living (entry-of r) ≡ true → find (aref-of (entry-of r)) (v .places) ≡ entry-of r) × Termed (v .days) (entry-of r)
 
   in-31 : (r : Record) → (living (entry-of r) ≡ true → find (aref-of (entry-of r)) (v .places) ≡ entry-of r) → Termed (v .days) (entry-of r) → living (entry-of r) ≡ true →
       In-term (find (aref-of (entry-of r)) (v .places)) day → (start-of (entry-of r) ≤ day) × (day < start-of (entry-of r) + 31)

@@ -28,8 +28,8 @@ module _ (d : Desk) (S : Sound d) (day : ℕ) where
   sums = four-sums (view d) (accounted-kept (view d) (S .kept)) day
 
   stand : All (Stands (view d) (S .kept) day) (d .places .now)
-  stand = all-three entry-of (Shows (view d .lines)) (λ e. living e ≡ true → find (aref-of e) (view d .places) ≡ e) (Termed (view d .days)) (d .places .now)
-      (S .records) (all-found (view d .places) (S .kept .once)) (S .kept .terms)
+  stand = all-three entry-of (Shows (balance (view d .lines))) (λ e. living e ≡ true → find (aref-of e) (view d .places) ≡ e) (Termed (view d .days)) (d .places .now)
+      (S .shown .records) (all-found (view d .places) (S .kept .once)) (S .kept .terms)
 
   pub held-is : sumBy (held-on day) (d .places .now) ≡ held-below (suc (d .top)) (view d .lines) day
   held-is = held-shown-in (view d) (S .kept) day (d .places .now) stand ∙ sums .holdings

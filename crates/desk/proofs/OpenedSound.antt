@@ -15,7 +15,7 @@ use Rattle.std.specs.declared.option.Option.the-variants.{Some, None}
 use Rattle.terms.specs.declared.refusal.Refusal.{Refusal}
 use Rattle.terms.specs.Days.{Days}
 use Rattle.journal.specs.declared.line.Line.{Line}
-use Rattle.journal.specs.Accounts.{free, balance}
+use Rattle.journal.specs.Accounts.{Account, free, balance}
 use Rattle.law.specs.View.{View, Entry, nobody, living, posted-on}
 use Rattle.law.specs.Keeps.{Kept}
 use Rattle.law.specs.Opened.{postings, opened}
@@ -27,15 +27,15 @@ use Rattle.desk.specs.declared.record.Record.{Record}
 use Rattle.desk.specs.Desks.{view, days-lent, refusal-over, New, Opened-over}
 use Rattle.desk.specs.Opening.{postings-fit, unless, opening-refusal}
 use Rattle.desk.specs.Records.{entry-of, vacant}
-use Rattle.desk.specs.Soundness.{Shows, Sound}
+use Rattle.desk.specs.Soundness.{Shows, Shown, Sound}
 
 views-alike : (days days′ : Days) (room : ℕ) (ls ls′ : List Line) (es es′ : List Entry) (clock clock′ top top′ : ℕ) →
     days ≡ days′ → ls ≡ ls′ → es ≡ es′ → clock ≡ clock′ → top ≡ top′ →
     _≡_ {A = View} (record { days = days; room = room; lines = ls; places = es; clock = clock; top = top }) (record { days = days′; room = room; lines = ls′; places = es′; clock = clock′; top = top′ })
 views-alike days days′ room ls ls′ es es′ clock clock′ top top′ a b c e f = rw (a, b, c, e, f) refl
 
-vacant-shows : (ls : List Line) → Shows ls vacant
-vacant-shows ls = record {
+vacant-shows : (B : Account → ℕ → ℕ) → Shows B vacant
+vacant-shows B = record {
   held-days = refl;
   aside-days = refl;
   holds = λ j h. getD-replicate 31 j 0 0 h;
@@ -58,8 +58,10 @@ module _ (d : Desk) (days : Days) (places : ℕ) (rest : List Line) (fit : Fit d
     kept = subst Kept (sym view-is) (kept-opened days places (length (d .lines .now)) fit);
     written = rw (N .used, N .lines) (simp length-append (omega arith));
     each-day = ap length (N .free) ∙ ap (λ x. length (x .amounts)) (sym (N .days));
-    frees = λ day h. ap (λ xs. getD xs day 0) (N .free) ∙ (sym (postings-free (days .amounts) day) ∙ ap (λ ls. balance ls free day) (sym lines-are));
-    records = subst (All (Shows (view d .lines))) (sym (N .places)) (all-alike (Shows (view d .lines)) places vacant (vacant-shows (view d .lines)));
+    shown = record {
+      frees = λ day h. ap (λ xs. getD xs day 0) (N .free) ∙ (sym (postings-free (days .amounts) day) ∙ ap (λ ls. balance ls free day) (sym lines-are));
+      records = subst (All (Shows (balance (view d .lines)))) (sym (N .places)) (all-alike (Shows (balance (view d .lines))) places vacant (vacant-shows (balance (view d .lines))));
+    };
   }
 
 goes-on : (passed : Bool) (refusal : Refusal) (rest : Option Refusal) → unless passed refusal rest ≡ None → (passed ≡ true) × (rest ≡ None)

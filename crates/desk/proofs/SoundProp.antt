@@ -11,14 +11,14 @@ use Rattle.std.specs.shelf.Lists.{All}
 use Rattle.terms.specs.Days.{Days}
 use Rattle.terms.specs.Words.{is-challenged, is-competing}
 use Rattle.journal.specs.declared.line.Line.{Line}
-use Rattle.journal.specs.Accounts.{free, held, aside, balance, brought, Never-below-zero, Names-below}
+use Rattle.journal.specs.Accounts.{Account, free, held, aside, balance, brought, Never-below-zero, Names-below}
 use Rattle.law.specs.View.{View, Entry, aref-of, start-of, living, find, count, posted-on}
 use Rattle.law.specs.Keeps.{Kept, In-term, Termed, Accepted-by}
 use Rattle.desk.specs.declared.memory.Desk.{Desk}
 use Rattle.desk.specs.declared.record.Record.{Record}
 use Rattle.desk.specs.Desks.{view}
 use Rattle.desk.specs.Records.{entry-of}
-use Rattle.desk.specs.Soundness.{Shows, Sound}
+use Rattle.desk.specs.Soundness.{Shows, Shown, Sound}
 
 all-prop : {X : Type 0} (P : X → Type 0) → ((x : X) → IsProp (P x)) → (xs : List X) → IsProp (All P xs)
 all-prop P h [] p q = λ i. tt
@@ -82,22 +82,32 @@ module _ (v : View) where
     accepted = all-prop (Accepted-by (v .top)) (λ e. two-prop (search props) (search props)) (v .places) (p .accepted) (q .accepted) i;
   }
 
-module _ (ls : List Line) (r : Record) where
+module _ (B : Account → ℕ → ℕ) (r : Record) where
   days-prop : (xs : List ℕ) → IsProp (length xs ≡ 31)
   days-prop xs = search props
 
-  holds-prop : IsProp ((j : ℕ) → j < 31 → getD (r .held) j 0 ≡ cond (living (entry-of r)) (balance ls (held (aref-of (entry-of r))) (start-of (entry-of r) + j)) 0)
+  holds-prop : IsProp ((j : ℕ) → j < 31 → getD (r .held) j 0 ≡ cond (living (entry-of r)) (B (held (aref-of (entry-of r))) (start-of (entry-of r) + j)) 0)
   holds-prop = search props depth 9
 
-  sets-aside-prop : IsProp ((j : ℕ) → j < 31 → getD (r .aside) j 0 ≡ cond (living (entry-of r)) (balance ls (aside (aref-of (entry-of r)) (r .against)) (start-of (entry-of r) + j)) 0)
+  sets-aside-prop : IsProp ((j : ℕ) → j < 31 → getD (r .aside) j 0 ≡ cond (living (entry-of r)) (B (aside (aref-of (entry-of r)) (r .against)) (start-of (entry-of r) + j)) 0)
   sets-aside-prop = search props depth 9
 
-  shows-prop : IsProp (Shows ls r)
+  shows-prop : IsProp (Shows B r)
   shows-prop p q = λ i. record {
     held-days = days-prop (r .held) (p .held-days) (q .held-days) i;
     aside-days = days-prop (r .aside) (p .aside-days) (q .aside-days) i;
     holds = holds-prop (p .holds) (q .holds) i;
     sets-aside = sets-aside-prop (p .sets-aside) (q .sets-aside) i;
+  }
+
+module _ (B : Account → ℕ → ℕ) (amounts : List ℕ) (places : List Record) where
+  frees-prop : IsProp ((day : ℕ) → day < length amounts → getD amounts day 0 ≡ B free day)
+  frees-prop = search props depth 9
+
+  shown-prop : IsProp (Shown B amounts places)
+  shown-prop p q = λ i. record {
+    frees = frees-prop (p .frees) (q .frees) i;
+    records = all-prop (Shows B) (shows-prop B) places (p .records) (q .records) i;
   }
 
 module _ (d : Desk) where
@@ -107,16 +117,12 @@ module _ (d : Desk) where
   each-day-prop : IsProp (length (d .free .now) ≡ length (d .amounts .now))
   each-day-prop = search props
 
-  frees-prop : IsProp ((day : ℕ) → day < length (d .amounts .now) → getD (d .free .now) day 0 ≡ balance (view d .lines) free day)
-  frees-prop = search props depth 9
-
   pub sound-prop : IsProp (Sound d)
   sound-prop p q = λ i. record {
     kept = kept-prop (view d) (p .kept) (q .kept) i;
     written = written-prop (p .written) (q .written) i;
     each-day = each-day-prop (p .each-day) (q .each-day) i;
-    frees = frees-prop (p .frees) (q .frees) i;
-    records = all-prop (Shows (view d .lines)) (shows-prop (view d .lines)) (d .places .now) (p .records) (q .records) i;
+    shown = shown-prop (balance (view d .lines)) (d .free .now) (d .places .now) (p .shown) (q .shown) i;
   }
 
   pub sound-of : ∥ Sound d ∥₁ → Sound d

@@ -31,7 +31,7 @@ in-all : (c : need.After-flown·1) →
     ≡ getD (c .args .self .now .amounts .now) (c .args .day) 0
 in-all c =
     let d = c .args .self .now in let S = sound-of d (c .pre) in
-    omega (arith, S .frees (c .args .day) (c .if-index-self .left), all-is d S (c .args .day), c .held-and-aside-held .ensures .held, c .held-and-aside-held .ensures .aside)
+    omega (arith, S .shown .frees (c .args .day) (omega (arith, S .each-day, c .if-index-self .left)), all-is d S (c .args .day), c .held-and-aside-held .ensures .held, c .held-and-aside-held .ensures .aside)
 
 pub sub-flown : need.sub-flown
 sub-flown c = omega (arith, in-all c)
@@ -53,7 +53,7 @@ returns c =
     record {
       value =
           ap ok (sums-alike _ _ _ _ _ _ _ _
-          (S .frees day (c .if-index-self .left))
+          (S .shown .frees day (omega (arith, S .each-day, c .if-index-self .left)))
           (c .held-and-aside-held .ensures .held ∙ held-is d S day)
           (c .held-and-aside-held .ensures .aside ∙ aside-is d S day)
           (omega (arith, in-all c)))
