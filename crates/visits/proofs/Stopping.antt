@@ -1,23 +1,21 @@
 -- Where no day is short nobody gives way, so the visiting may stop there.
-use mathlib.Core.Path.{_≡_, refl, sym, _∙_, ap, subst}
-use mathlib.Core.List.{List, [], _∷_, _++_}
-use mathlib.Core.Bool.{Bool, true, false, _&&_, _||_, not, cond}
-use mathlib.Core.Logic.{_⊎_, inl, inr}
-use Prim.Native.Nat.{ℕ, zero, suc, _+_, _-_, _≤_, _<_, min}
+use mathlib.Core.Path.{_≡_, refl, sym, _∙_, ap}
+use mathlib.Core.List.{List, [], _∷_}
+use mathlib.Core.Bool.{Bool, true, false, _&&_, cond}
+use Prim.Native.Nat.{ℕ, zero, suc, _+_, _-_}
 use native.Mathlib.Omega.{arith}
 use lib.Dec.{eqb, leb, ltb}
-use Rattle.std.proofs.shelf.Tests.{eq-eqb, eqb-true, cases-bool, and-parts, and-from, or-right, leb-true, ltb-true, not-false, cond-false, not-from-true}
+use Rattle.std.proofs.shelf.Tests.{eq-eqb, eqb-true, and-parts, and-from, or-right, leb-true, ltb-true, not-false, cond-false, not-from-true}
 use Rattle.terms.specs.declared.request.Request.{Request}
 use Rattle.terms.specs.Words.{is-pending}
 use Rattle.sheets.specs.Rules.{Rules}
 use Rattle.journal.specs.declared.line.Line.{Line}
 use Rattle.journal.specs.declared.line.LineKind.{LineKind}
-use Rattle.journal.specs.declared.line.LineKind.the-variants.{Superseded, Recalled, SetAside}
-use Rattle.law.specs.View.{View, Entry, aref-of, start-of, length-of}
+use Rattle.law.specs.View.{Entry, aref-of, start-of, length-of}
 use Rattle.law.specs.Posting.{post, by-day, each-day, holding, free-on}
-use Rattle.law.specs.Preemption.{wanted, taken, short, meets-shortage, supersede, give, grant, supersede-all, give-all, defenders, preempt}
+use Rattle.law.specs.Preemption.{wanted, taken, short, meets-shortage, supersede, give, grant, supersede-all, give-all, defenders}
 use Rattle.law.proofs.Later.{each-true}
-use Rattle.visits.specs.Visiting.{still-short, supersede-until, give-until, visit, Stopping-changes-nothing}
+use Rattle.visits.specs.Visiting.{still-short, supersede-until, give-until, Stopping-changes-nothing}
 
 -- a test that holds everywhere holds on each day
 pub each-day-from : (p : ℕ → Bool) → ((k : ℕ) → p k ≡ true) → (s n : ℕ) → each-day p s n ≡ true
