@@ -50,9 +50,10 @@ module _ (r : Request) (ls : List Line) where
   pub visited-next : (earlier : List Entry) (d : Entry) (rest : List Entry) (ms ns : List Line) → Visited earlier (d ∷ rest) ms → Effect r ls d ms ns →
       All (λ e. aref-of d ≡ aref-of e → ⊥) rest → All Faces rest → Visited (earlier ++ d ∷ []) rest ns
   visited-next earlier d rest ms ns V E o f = record {
-      solvent = E .solvent;
-      met = λ k. E .less-short k ∙ (ap (λ i. i - holding ls (aref-of d) k) (V .met k) ∙ sym (shortage-met-push r ls earlier d k));
-      keeps = keeps-next d ms ns E rest o f (V .keeps .1) }
+    solvent = E .solvent;
+    met = λ k. E .less-short k ∙ (ap (λ i. i - holding ls (aref-of d) k) (V .met k) ∙ sym (shortage-met-push r ls earlier d k));
+    keeps = keeps-next d ms ns E rest o f (V .keeps .1);
+  }
 
   -- whether a pending defender is superseded can be told from the lines before the submit
   superseded-told : (earlier : List Entry) (d : Entry) (rest : List Entry) (ms : List Line) → Visited earlier (d ∷ rest) ms → Pending d → meets-shortage r d ms ≡ is-superseded r ls earlier d
@@ -87,9 +88,10 @@ module _ (r : Request) (ls : List Line) where
       Superseded-all t earlier ps cs ms (supersede-all t r (ps ++ cs) ms)
   unfolding supersede-all superseded-lines superseded-on
   supersede-all-visits t earlier [] cs ms p n D F V = subst (Superseded-all t earlier [] cs ms) (sym (supersede-all-none t cs n ms)) (record {
-      writes = sym (ap (λ x. ms ++ x) (superseded-lines-none t earlier cs n) ∙ append-nil ms);
-      visited = subst (λ x. Visited x cs ms) (sym (append-nil earlier)) V;
-      frees = λ k. omega (arith, superseded-on-none earlier cs n k) })
+    writes = sym (ap (λ x. ms ++ x) (superseded-lines-none t earlier cs n) ∙ append-nil ms);
+    visited = subst (λ x. Visited x cs ms) (sym (append-nil earlier)) V;
+    frees = λ k. omega (arith, superseded-on-none earlier cs n k);
+  })
   supersede-all-visits t earlier (d ∷ ps) cs ms p n D F V =
       let one = supersede-visit r ls t d (F .0 .1) ms (V .solvent) (V .keeps .0) in
       let W : Visited (earlier ++ d ∷ []) (ps ++ cs) (supersede t r d ms) = visited-next earlier d (ps ++ cs) ms (supersede t r d ms) V (one .1) (D .0) (F .1) in
@@ -97,25 +99,31 @@ module _ (r : Request) (ls : List Line) where
     where
       told : meets-shortage r d ms ≡ is-superseded r ls earlier d
       told = superseded-told earlier d (ps ++ cs) ms V (p .0)
+
       own : List Line
       own = lines-by-day t Superseded (aref-of d) (r .aref) (λ day. holding ls (aref-of d) day) (start-of d) (length-of d)
+
       first : supersede-all t r (ps ++ cs) (supersede t r d ms) ≡ supersede-all t r (d ∷ ps ++ cs) ms
       first = sym (ap (λ c. supersede-all t r (ps ++ cs) (cond c (supersede t r d ms) ms)) (p .0))
+
       lines-are : superseded-lines t r ls earlier (d ∷ ps ++ cs) ≡ cond (is-superseded r ls earlier d) own [] ++ superseded-lines t r ls (earlier ++ d ∷ []) (ps ++ cs)
       lines-are = refl
+
       on-is : (k : ℕ) → superseded-on r ls earlier (d ∷ ps ++ cs) k ≡ cond (is-superseded r ls earlier d) (holding ls (aref-of d) k) 0 + superseded-on r ls (earlier ++ d ∷ []) (ps ++ cs) k
       on-is k = refl
+
       then : (supersede t r d ms ≡ ms ++ cond (meets-shortage r d ms) own []) × Effect r ls d ms (supersede t r d ms) × ((k : ℕ) → free-on (supersede t r d ms) k ≡ free-on ms k + cond (meets-shortage r d ms) (holding ls (aref-of d) k) 0) →
           Superseded-all t (earlier ++ d ∷ []) ps cs (supersede t r d ms) (supersede-all t r (ps ++ cs) (supersede t r d ms)) →
           Superseded-all t earlier (d ∷ ps) cs ms (supersede-all t r (d ∷ ps ++ cs) ms)
       then one S = subst (Superseded-all t earlier (d ∷ ps) cs ms) first (record {
-          writes = S .writes ∙ (ap (λ x. x ++ superseded-lines t r ls (earlier ++ d ∷ []) (ps ++ cs)) (one .0 ∙ ap (λ c. ms ++ cond c own []) told)
+        writes = S .writes ∙ (ap (λ x. x ++ superseded-lines t r ls (earlier ++ d ∷ []) (ps ++ cs)) (one .0 ∙ ap (λ c. ms ++ cond c own []) told)
             ∙ (append-assoc ms (cond (is-superseded r ls earlier d) own []) (superseded-lines t r ls (earlier ++ d ∷ []) (ps ++ cs)) ∙ ap (λ x. ms ++ x) (sym lines-are)));
-          visited = subst (λ x. Visited x cs (supersede-all t r (ps ++ cs) (supersede t r d ms))) (append-assoc earlier (d ∷ []) ps) (S .visited);
-          frees = λ k.
+        visited = subst (λ x. Visited x cs (supersede-all t r (ps ++ cs) (supersede t r d ms))) (append-assoc earlier (d ∷ []) ps) (S .visited);
+        frees = λ k.
             let a = S .frees k in
             let b : free-on (supersede t r d ms) k ≡ free-on ms k + cond (is-superseded r ls earlier d) (holding ls (aref-of d) k) 0 = one .2 k ∙ ap (λ c. free-on ms k + cond c (holding ls (aref-of d) k) 0) told in
-            sums _ _ _ _ _ _ a b (on-is k) })
+            sums _ _ _ _ _ _ a b (on-is k);
+      })
         where
           sums : (x y z u w s : ℕ) → x ≡ y + w → y ≡ z + u → s ≡ u + w → x ≡ z + s
           sums x y z u w s a b c = omega arith
@@ -125,10 +133,11 @@ module _ (r : Request) (ls : List Line) where
       (by-day (grant t r) (r .start) (r .length) ms ≡ ms ++ lines-by-day t Granted 0 (r .aref) (λ day. min (now-free day) (wanted r day)) (r .start) (r .length))
       × Visited earlier rest (by-day (grant t r) (r .start) (r .length) ms)
   grants-visit t earlier rest ms now-free f F V = done (days-move t Granted 0 (r .aref) (omega arith) (λ k ns. min (free-on ns k) (wanted r k)) (λ day. min (now-free day) (wanted r day)) (r .start) (r .length) ms (V .solvent)
-        (λ k lo hi. omega (arith, f k)) (λ k lo hi ns st. ap (λ i. min i (wanted r k)) (st .stands free (omega arith) ∙ f k)))
+      (λ k lo hi. omega (arith, f k)) (λ k lo hi ns st. ap (λ i. min i (wanted r k)) (st .stands free (omega arith) ∙ f k)))
     where
       ns : List Line
       ns = by-day (grant t r) (r .start) (r .length) ms
+
       done : Moved t Granted 0 (r .aref) (λ day. min (now-free day) (wanted r day)) (r .start) (r .length) ms ns →
           (ns ≡ ms ++ lines-by-day t Granted 0 (r .aref) (λ day. min (now-free day) (wanted r day)) (r .start) (r .length)) × Visited earlier rest ns
       done m = (m .writes, record { solvent = m .solvent; met = λ k. same-short k (term-cases (r .start) (r .length) k) ∙ V .met k; keeps = kept rest F (V .keeps) })
@@ -136,9 +145,11 @@ module _ (r : Request) (ls : List Line) where
           same-short : (k : ℕ) → ((r .start ≤ k) × (k < r .start + r .length)) ⊎ ((k < r .start) ⊎ (r .start + r .length ≤ k)) → short r k ns ≡ short r k ms
           same-short k (inl w) = as-short r ls k ms ns (let a = m .moves k (w .0) (w .1) free (omega arith) in let b = m .takes-more k (w .0) (w .1) in omega arith)
           same-short k (inr o) = short-stands r ls k ms ns (m .elsewhen k o)
+
           same-holding : (a k : ℕ) → (a ≡ r .aref → ⊥) → ((r .start ≤ k) × (k < r .start + r .length)) ⊎ ((k < r .start) ⊎ (r .start + r .length ≤ k)) → holding ns a k ≡ holding ms a k
           same-holding a k ne (inl w) = let z = m .moves k (w .0) (w .1) (held a) (omega arith) in let z′ = rw (ne-eqb a (r .aref) ne) at z in omega arith
           same-holding a k ne (inr o) = m .elsewhen k o .stands (held a) (omega arith)
+
           kept : (es : List Entry) → All Faces es → All (λ e. (k : ℕ) → holding ms (aref-of e) k ≡ holding ls (aref-of e) k) es → All (λ e. (k : ℕ) → holding ns (aref-of e) k ≡ holding ls (aref-of e) k) es
           kept [] u h = tt
           kept (e ∷ es) u h = ((λ k. same-holding (aref-of e) k (u .0 .0) (term-cases (r .start) (r .length) k) ∙ h .0 k), kept es (u .1) (h .1))
@@ -163,4 +174,4 @@ module _ (r : Request) (ls : List Line) where
         let one = give-visit r ls t d (F .0 .1) ms (V .solvent) (V .keeps .0) R earlier (V .met) in
         let W : Visited (earlier ++ d ∷ []) cs (give R t r d ms) = visited-next earlier d cs ms (give R t r d ms) V (one .1) (D .0) (F .1) in
         rw (n .0) (give-all-visits (earlier ++ d ∷ []) cs (give R t r d ms) (n .1) (D .1) (F .1) W
-          ∙ (ap (λ x. x ++ given-lines R t r ls (earlier ++ d ∷ []) cs) (one .0) ∙ append-assoc ms _ (given-lines R t r ls (earlier ++ d ∷ []) cs)))
+        ∙ (ap (λ x. x ++ given-lines R t r ls (earlier ++ d ∷ []) cs) (one .0) ∙ append-assoc ms _ (given-lines R t r ls (earlier ++ d ∷ []) cs)))

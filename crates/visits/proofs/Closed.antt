@@ -50,9 +50,10 @@ module _ (R : Rules) (t : ℕ) (r : Request) (ls : List Line) (fine : Never-belo
   nobody-visited : (ds : List Entry) → Visited r ls [] ds ls
   unfolding holdings
   nobody-visited ds = record {
-      solvent = fine;
-      met = λ k. ap (λ i. cond (leb (r .start) k && ltb k (r .start + r .length)) (wanted r k - (free-on ls k + i)) 0) (none k);
-      keeps = all-same ds }
+    solvent = fine;
+    met = λ k. ap (λ i. cond (leb (r .start) k && ltb k (r .start + r .length)) (wanted r k - (free-on ls k + i)) 0) (none k);
+    keeps = all-same ds;
+  }
     where
       all-same : (es : List Entry) → All (λ e. (k : ℕ) → holding ls (aref-of e) k ≡ holding ls (aref-of e) k) es
       all-same [] = tt
@@ -78,8 +79,8 @@ module _ (R : Rules) (t : ℕ) (r : Request) (ls : List Line) (fine : Never-belo
       let gl = lines-by-day t Granted 0 (r .aref) (granted-on r ls (ps ++ cs)) (r .start) (r .length) in
       let gv = given-lines R t r ls [] (ps ++ cs) in
       let e₁ : give-all R t r (ps ++ cs) ns ≡ ns ++ gv =
-            give-all-skips r ls R t ps cs p ns ∙ (give-all-visits r ls R t ps cs ns n (second-different ps cs D) (second (Faces r ls) ps cs F) (G .1)
-            ∙ ap (λ x. ns ++ x) (sym (given-lines-skips r ls R t [] ps cs p))) in
+      give-all-skips r ls R t ps cs p ns ∙ (give-all-visits r ls R t ps cs ns n (second-different ps cs D) (second (Faces r ls) ps cs F) (G .1)
+      ∙ ap (λ x. ns ++ x) (sym (given-lines-skips r ls R t [] ps cs p))) in
       e₁ ∙ (ap (λ x. x ++ gv) (G .0 ∙ ap (λ x. x ++ gl) (S .writes)) ∙ (append-assoc (ls ++ sl) gl gv ∙ append-assoc ls sl (gl ++ gv)))
 
 -- of a book that is right
@@ -89,23 +90,32 @@ preempts-in-closed-form R L p v I terms t r up = go (pending-come-first R L (def
   where
     kept-apart : Different (kept-by (defends R t r (v .days)) (v .places))
     kept-apart = different (defends R t r (v .days)) (λ x h. defends-lives R t r v x h) (v .places) (I .whole .once)
+
     apart : Different (defenders R t r v)
     apart = different-in-turn R (kept-by (defends R t r (v .days)) (v .places)) kept-apart
+
     possible : All (λ e. Possible (e .standing .request)) (kept-by (defends R t r (v .days)) (v .places))
     possible = living-possible (v .days) (defends R t r (v .days)) (λ x h. defends-lives R t r v x h) (v .places) terms
+
     sorted : Sorted R (defenders R t r v)
     sorted = sorted-in-turn R L (kept-by (defends R t r (v .days)) (v .places)) kept-apart possible
+
     stand : All (λ d. (find (aref-of d) (v .places) ≡ d) × (defends R t r (v .days) d ≡ true) × (r .aref ≡ aref-of d → ⊥)) (defenders R t r v)
     stand = defenders-stand R v (I .whole) (I .sound .low) t r up
+
     both : (es : List Entry) → All (λ e. Possible (e .standing .request)) es → All (λ d. (find (aref-of d) (v .places) ≡ d) × (defends R t r (v .days) d ≡ true) × (r .aref ≡ aref-of d → ⊥)) es → All Defends es
     both [] a b = tt
     both (e ∷ es) a b = ((a .0, and-parts (is-pending (e .standing .state) || is-confirmed (e .standing .state)) _ (b .0 .1) .0), both es (a .1) (b .1))
+
     all-defend : All Defends (defenders R t r v)
     all-defend = both (defenders R t r v) (all-in-turn (λ e. Possible (e .standing .request)) R _ possible) stand
+
     faces : All (Faces r (v .lines)) (defenders R t r v)
     faces = all-weaker _ _ (λ d h. ((λ (q : aref-of d ≡ r .aref). h .2 (sym q)), (λ k q. let w = subst (λ e. Holding e k) (h .0) (I .whole .supp .holds (aref-of d) k q) in (w .1, w .2)))) (defenders R t r v) stand
+
     none : (k : ℕ) → taken (r .aref) k (v .lines) ≡ 0
     none k = none-taken-yet (suc (v .top)) (r .aref) k (v .lines) (omega arith) (I .sound .fine .names)
+
     go : Split R L (defenders R t r v) → preempt R t r v ≡ v .lines ++ preemption-lines R t r v
     go S = subst (λ ds. give-all R t r ds (by-day (grant t r) (r .start) (r .length) (supersede-all t r ds (v .lines)))
         ≡ v .lines ++ (superseded-lines t r (v .lines) [] ds ++ (lines-by-day t Granted 0 (r .aref) (granted-on r (v .lines) ds) (r .start) (r .length) ++ given-lines R t r (v .lines) [] ds))) (sym (S .whole))

@@ -45,11 +45,12 @@ module _ (t : ℕ) (κ : LineKind) (a b : ℕ) (real : 0 < sort (from κ a b)) (
   -- a posting leaves every other day as it was
   other-day-stands : (ms : List Line) → Never-below-zero ms → (k m : ℕ) → m ≤ balance ms (from κ a b) k → (j : ℕ) → (k ≡ j → ⊥) → Day-stands b j ms (post t κ a b k m ms)
   other-day-stands ms fine k m paid j ne = record {
-      stands = λ x h. day-post ms fine t κ a b k m paid x j h ne;
-      taken-stands =
+    stands = λ x h. day-post ms fine t κ a b k m paid x j h ne;
+    taken-stands =
         let e = taken-post b j t κ a b k m ms in
         let z : cond (brings-challenger κ && (eqb b b && eqb k j)) m 0 ≡ 0 = rw (ne-eqb k j ne, eq-eqb b b refl) (never (brings-challenger κ)) in
-        omega arith }
+        omega arith;
+  }
     where
       never : (c : Bool) → cond (c && false) m 0 ≡ 0
       never true = refl
@@ -62,51 +63,57 @@ module _ (t : ℕ) (κ : LineKind) (a b : ℕ) (real : 0 < sort (from κ a b)) (
       Moved t κ a b mw s n ms (by-day (λ k ns. post t κ a b k (f k ns) ns) s n ms)
   unfolding by-day lines-by-day
   days-move s zero ms fine paid reads = record {
-      writes = sym (append-nil ms);
-      solvent = fine;
-      elsewhen = λ k h. record { stands = λ x q. refl; taken-stands = refl };
-      moves = λ k lo hi. absurd (let z : ⊥ = omega arith in z);
-      takes-more = λ k lo hi. absurd (let z : ⊥ = omega arith in z) }
+    writes = sym (append-nil ms);
+    solvent = fine;
+    elsewhen = λ k h. record { stands = λ x q. refl; taken-stands = refl };
+    moves = λ k lo hi. absurd (let z : ⊥ = omega arith in z);
+    takes-more = λ k lo hi. absurd (let z : ⊥ = omega arith in z);
+  }
   days-move s (suc n) ms fine paid reads =
       let at-s : f s ms ≡ mw s = reads s (omega arith) (omega arith) ms (record { stands = λ x q. refl; taken-stands = refl }) in
       rw at-s (done (days-move (suc s) n (post t κ a b s (mw s) ms) (nbz-post ms fine t κ a b s (mw s) (paid s (omega arith) (omega arith)))
-        (λ k lo hi. let o = off k lo in let p = paid k (omega arith) (omega arith) in omega (arith, o .stands (from κ a b) real))
-        (λ k lo hi ns st. reads k (omega arith) (omega arith) ns (day-stands-trans b k ms _ ns (off k lo) st))))
+      (λ k lo hi. let o = off k lo in let p = paid k (omega arith) (omega arith) in omega (arith, o .stands (from κ a b) real))
+      (λ k lo hi ns st. reads k (omega arith) (omega arith) ns (day-stands-trans b k ms _ ns (off k lo) st))))
     where
       off : (k : ℕ) → suc s ≤ k → Day-stands b k ms (post t κ a b s (mw s) ms)
       off k lo = other-day-stands ms fine s (mw s) (paid s (omega arith) (omega arith)) k (λ (e : s ≡ k). omega arith)
+
       before : (k : ℕ) → k < s → Day-stands b k ms (post t κ a b s (mw s) ms)
       before k lo = other-day-stands ms fine s (mw s) (paid s (omega arith) (omega arith)) k (λ (e : s ≡ k). omega arith)
+
       done : Moved t κ a b mw (suc s) n (post t κ a b s (mw s) ms) (by-day (λ k ns. post t κ a b k (f k ns) ns) (suc s) n (post t κ a b s (mw s) ms)) →
           Moved t κ a b mw s (suc n) ms (by-day (λ k ns. post t κ a b k (f k ns) ns) (suc s) n (post t κ a b s (mw s) ms))
       done m = record {
-          writes = m .writes ∙ (ap (λ x. x ++ lines-by-day t κ a b mw (suc s) n) (post-writes t κ a b s (mw s) ms) ∙ append-assoc ms _ _);
-          solvent = m .solvent;
-          elsewhen = λ k h. out k h;
-          moves = λ k lo hi x q. inside k lo hi x q (cases-eq s k);
-          takes-more = λ k lo hi. took k lo hi (cases-eq s k) }
+        writes = m .writes ∙ (ap (λ x. x ++ lines-by-day t κ a b mw (suc s) n) (post-writes t κ a b s (mw s) ms) ∙ append-assoc ms _ _);
+        solvent = m .solvent;
+        elsewhen = λ k h. out k h;
+        moves = λ k lo hi x q. inside k lo hi x q (cases-eq s k);
+        takes-more = λ k lo hi. took k lo hi (cases-eq s k);
+      }
         where
           out : (k : ℕ) → (k < s) ⊎ (s + suc n ≤ k) → Day-stands b k ms (by-day (λ k ns. post t κ a b k (f k ns) ns) (suc s) n (post t κ a b s (mw s) ms))
           out k (inl h) = day-stands-trans b k ms _ _ (before k h) (m .elsewhen k (inl (omega arith)))
           out k (inr h) = day-stands-trans b k ms _ _ (off k (omega arith)) (m .elsewhen k (inr (omega arith)))
+
           inside : (k : ℕ) → s ≤ k → k < s + suc n → (x : Account) → 0 < sort x → (s ≡ k) ⊎ (s ≡ k → ⊥) →
               balance (by-day (λ k ns. post t κ a b k (f k ns) ns) (suc s) n (post t κ a b s (mw s) ms)) x k + cond (same x (from κ a b)) (mw k) 0 ≡ balance ms x k + cond (same x (to κ a b)) (mw k) 0
           inside k lo hi x q (inl e) = subst (λ j. balance (by-day (λ k ns. post t κ a b k (f k ns) ns) (suc s) n (post t κ a b s (mw s) ms)) x j + cond (same x (from κ a b)) (mw j) 0 ≡ balance ms x j + cond (same x (to κ a b)) (mw j) 0) e
               (let w = balance-post ms fine t κ a b s (mw s) (paid s (omega arith) (omega arith)) x s q in
-               let w′ = rw (eq-eqb s s refl) at w in
-               let st = m .elsewhen s (inl (omega arith)) .stands x q in
-               omega arith)
+              let w′ = rw (eq-eqb s s refl) at w in
+              let st = m .elsewhen s (inl (omega arith)) .stands x q in
+              omega arith)
           inside k lo hi x q (inr ne) =
               let lo′ : suc s ≤ k = omega arith in
               let w = m .moves k lo′ (omega arith) x q in
               let o = off k lo′ .stands x q in
               omega arith
+
           took : (k : ℕ) → s ≤ k → k < s + suc n → (s ≡ k) ⊎ (s ≡ k → ⊥) →
               taken b k (by-day (λ k ns. post t κ a b k (f k ns) ns) (suc s) n (post t κ a b s (mw s) ms)) ≡ taken b k ms + cond (brings-challenger κ) (mw k) 0
           took k lo hi (inl e) = subst (λ j. taken b j (by-day (λ k ns. post t κ a b k (f k ns) ns) (suc s) n (post t κ a b s (mw s) ms)) ≡ taken b j ms + cond (brings-challenger κ) (mw j) 0) e
               (let w = taken-post b s t κ a b s (mw s) ms in
-               let w′ : taken b s (post t κ a b s (mw s) ms) ≡ taken b s ms + cond (brings-challenger κ) (mw s) 0 = w ∙ ap (λ c. taken b s ms + cond c (mw s) 0) (both (brings-challenger κ)) in
-               m .elsewhen s (inl (omega arith)) .taken-stands ∙ w′)
+              let w′ : taken b s (post t κ a b s (mw s) ms) ≡ taken b s ms + cond (brings-challenger κ) (mw s) 0 = w ∙ ap (λ c. taken b s ms + cond c (mw s) 0) (both (brings-challenger κ)) in
+              m .elsewhen s (inl (omega arith)) .taken-stands ∙ w′)
             where
               both : (c : Bool) → (c && (eqb b b && eqb s s)) ≡ c
               both true = rw (eq-eqb b b refl, eq-eqb s s refl)

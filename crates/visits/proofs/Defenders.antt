@@ -52,6 +52,7 @@ module _ (R : Rules) (L : Lawful R) where
       confirmed : (is-pending (d .standing .state) ≡ true) ⊎ (is-confirmed (d .standing .state) ≡ true) → d .standing .state ≡ Confirmed
       confirmed (inl q) = absurd (false≢true (sym n ∙ q))
       confirmed (inr q) = confirmed-is (d .standing .state) q
+
       go : (is-pending (e .standing .state) ≡ true) ⊎ (is-pending (e .standing .state) ≡ false) → Not-pending e
       go (inr q) = q
       go (inl q) =

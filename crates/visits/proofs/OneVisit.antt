@@ -121,14 +121,18 @@ module _ (r : Request) (ls : List Line) where
           where
             ns : List Line
             ns = by-day (λ k ns. post t Superseded (aref-of d) (r .aref) k (holding ns (aref-of d) k) ns) (start-of d) (length-of d) ms
+
             freed : (k : ℕ) → ((start-of d ≤ k) × (k < start-of d + length-of d)) ⊎ ((k < start-of d) ⊎ (start-of d + length-of d ≤ k)) → free-on ns k ≡ free-on ms k + holding ls (aref-of d) k
             freed k (inl w) = let z = m .moves k (w .0) (w .1) free (omega arith) in omega arith
             freed k (inr o) = let z = none-outside d i k o in let y = m .elsewhen k o .stands free (omega arith) in omega arith
+
             took : (k : ℕ) → ((start-of d ≤ k) × (k < start-of d + length-of d)) ⊎ ((k < start-of d) ⊎ (start-of d + length-of d ≤ k)) → taken (r .aref) k ns ≡ taken (r .aref) k ms
             took k (inl w) = let z = m .takes-more k (w .0) (w .1) in omega arith
             took k (inr o) = m .elsewhen k o .taken-stands
+
             less : (k : ℕ) → ((start-of d ≤ k) × (k < start-of d + length-of d)) ⊎ ((k < start-of d) ⊎ (start-of d + length-of d ≤ k)) → short r k ns ≡ short r k ms - holding ls (aref-of d) k
             less k c = less-short-by k (holding ls (aref-of d) k) ms ns (let z = freed k c in let y = took k c in omega arith)
+
             other : (a k : ℕ) → (a ≡ aref-of d → ⊥) → ((start-of d ≤ k) × (k < start-of d + length-of d)) ⊎ ((k < start-of d) ⊎ (start-of d + length-of d ≤ k)) → holding ns a k ≡ holding ms a k
             other a k p (inl w) = let z = m .moves k (w .0) (w .1) (held a) (omega arith) in let z′ = rw (ne-eqb a (aref-of d) p) at z in omega arith
             other a k p (inr o) = m .elsewhen k o .stands (held a) (omega arith)
@@ -141,8 +145,10 @@ module _ (r : Request) (ls : List Line) where
       where
         reads : (k : ℕ) (ns : List Line) → Day-stands (r .aref) k ms ns → min (holding ns (aref-of d) k) (short r k ns) ≡ gives-on r ls earlier d k
         reads k ns st = let a = st .stands (held (aref-of d)) (omega arith) ∙ keeps k in let b = short-stands k ms ns st ∙ met k in rw (a, b)
+
         paid : (k : ℕ) → gives-on r ls earlier d k ≤ holding ms (aref-of d) k
         paid k = omega (arith, keeps k)
+
         -- free stays, what was taken gains what is given, and nobody else's holding changes
         effect : (c : Bool) (ns : List Line) → Moved t (cond c SetAside Recalled) (aref-of d) (r .aref) (gives-on r ls earlier d) (start-of d) (length-of d) ms ns → Effect d ms ns
         effect c ns m = record { solvent = m .solvent; less-short = λ k. less k (term-cases (start-of d) (length-of d) k); others = λ a k p q. other a k p q (term-cases (start-of d) (length-of d) k) }
@@ -150,12 +156,15 @@ module _ (r : Request) (ls : List Line) where
             free-stays : (b : Bool) (k x : ℕ) → balance ns free k + cond (same free (from (cond b SetAside Recalled) (aref-of d) (r .aref))) x 0 ≡ balance ms free k + cond (same free (to (cond b SetAside Recalled) (aref-of d) (r .aref))) x 0 → free-on ns k ≡ free-on ms k
             free-stays true k x e = omega arith
             free-stays false k x e = omega arith
+
             gains : (b : Bool) (k x : ℕ) → taken (r .aref) k ns ≡ taken (r .aref) k ms + cond (brings-challenger (cond b SetAside Recalled)) x 0 → taken (r .aref) k ns ≡ taken (r .aref) k ms + x
             gains true k x e = e
             gains false k x e = e
+
             stays : (b : Bool) (a k x : ℕ) → (a ≡ aref-of d → ⊥) → (a ≡ r .aref → ⊥) → balance ns (held a) k + cond (same (held a) (from (cond b SetAside Recalled) (aref-of d) (r .aref))) x 0 ≡ balance ms (held a) k + cond (same (held a) (to (cond b SetAside Recalled) (aref-of d) (r .aref))) x 0 → holding ns a k ≡ holding ms a k
             stays true a k x p q e = let e′ = rw (ne-eqb a (aref-of d) p) at e in omega arith
             stays false a k x p q e = let e′ = rw (ne-eqb a (aref-of d) p, ne-eqb a (r .aref) q) at e in omega arith
+
             less : (k : ℕ) → ((start-of d ≤ k) × (k < start-of d + length-of d)) ⊎ ((k < start-of d) ⊎ (start-of d + length-of d ≤ k)) → short r k ns ≡ short r k ms - holding ls (aref-of d) k
             less k (inl w) =
                 let f = free-stays c k (gives-on r ls earlier d k) (m .moves k (w .0) (w .1) free (omega arith)) in
@@ -166,13 +175,16 @@ module _ (r : Request) (ls : List Line) where
                 sum : (x y z : ℕ) → x + (y + z) ≡ x + y + z
                 sum x y z = omega arith
             less k (inr o) = short-stands k ms ns (m .elsewhen k o) ∙ (let z = none-outside d i k o in omega arith)
+
             other : (a k : ℕ) → (a ≡ aref-of d → ⊥) → (a ≡ r .aref → ⊥) → ((start-of d ≤ k) × (k < start-of d + length-of d)) ⊎ ((k < start-of d) ⊎ (start-of d + length-of d ≤ k)) → holding ns a k ≡ holding ms a k
             other a k p q (inl w) = stays c a k (gives-on r ls earlier d k) p q (m .moves k (w .0) (w .1) (held a) (omega arith))
             other a k p q (inr o) = m .elsewhen k o .stands (held a) (omega arith)
+
         moved : (c : Bool) → Moved t (cond c SetAside Recalled) (aref-of d) (r .aref) (gives-on r ls earlier d) (start-of d) (length-of d) ms (by-day (λ k ns. post t (cond c SetAside Recalled) (aref-of d) (r .aref) k (min (holding ns (aref-of d) k) (short r k ns)) ns) (start-of d) (length-of d) ms)
         moved true = days-move t SetAside (aref-of d) (r .aref) (omega arith) (λ k ns. min (holding ns (aref-of d) k) (short r k ns)) (gives-on r ls earlier d) (start-of d) (length-of d) ms fine (λ k lo hi. paid k) (λ k lo hi ns st. reads k ns st)
         moved false = days-move t Recalled (aref-of d) (r .aref) (omega arith) (λ k ns. min (holding ns (aref-of d) k) (short r k ns)) (gives-on r ls earlier d) (start-of d) (length-of d) ms fine (λ k lo hi. paid k) (λ k lo hi ns st. reads k ns st)
+
         go : (c : Bool) → (by-day (λ k ns. post t (cond c SetAside Recalled) (aref-of d) (r .aref) k (min (holding ns (aref-of d) k) (short r k ns)) ns) (start-of d) (length-of d) ms
-               ≡ ms ++ lines-by-day t (cond c SetAside Recalled) (aref-of d) (r .aref) (gives-on r ls earlier d) (start-of d) (length-of d))
+            ≡ ms ++ lines-by-day t (cond c SetAside Recalled) (aref-of d) (r .aref) (gives-on r ls earlier d) (start-of d) (length-of d))
             × Effect d ms (by-day (λ k ns. post t (cond c SetAside Recalled) (aref-of d) (r .aref) k (min (holding ns (aref-of d) k) (short r k ns)) ns) (start-of d) (length-of d) ms)
         go c = let m = moved c in (m .writes, effect c _ m)

@@ -78,6 +78,7 @@ module _ (r : Request) where
     where
       next : List Line
       next = cond (is-pending (d .standing .state)) (supersede t r d ls) ls
+
       go : supersede-until t r ds next ≡ supersede-all t r ds next → (c : Bool) → still-short r ls ≡ c → cond c (supersede-until t r ds next) ls ≡ supersede-all t r ds next
       go ih true q = ih
       go ih false q = sym (supersedes-none-of-all t (d ∷ ds) ls (none-short ls q))
@@ -89,6 +90,7 @@ module _ (r : Request) where
     where
       next : List Line
       next = cond (is-pending (d .standing .state)) ls (give R t r d ls)
+
       go : give-until R t r ds next ≡ give-all R t r ds next → (c : Bool) → still-short r ls ≡ c → cond c (give-until R t r ds next) ls ≡ give-all R t r ds next
       go ih true q = ih
       go ih false q = sym (none-of-all-gives R t (d ∷ ds) ls (none-short ls q))

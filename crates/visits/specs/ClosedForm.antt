@@ -69,7 +69,7 @@ unfoldable pub given-lines : Rules → ℕ → Request → List Line → List En
 given-lines R minute r ls earlier [] = []
 given-lines R minute r ls earlier (d ∷ ds) =
     cond (is-pending (d .standing .state)) []
-      (lines-by-day minute (cond (R .may-match r (d .standing)) SetAside Recalled) (aref-of d) (r .aref) (gives-on r ls earlier d) (start-of d) (length-of d))
+    (lines-by-day minute (cond (R .may-match r (d .standing)) SetAside Recalled) (aref-of d) (r .aref) (gives-on r ls earlier d) (start-of d) (length-of d))
     ++ given-lines R minute r ls (earlier ++ d ∷ []) ds
 
 -- the lines of a preemption in their order: superseded, granted by day, recalled and set aside
