@@ -49,7 +49,7 @@ unfolding count
 none-of a [] h = tt
 none-of a (e ∷ es) h = ((λ l q. let z = and-from (living e) (eqb (aref-of e) a) l (eq-eqb (aref-of e) a q) in let y = rw z at h in omega arith), none-of a es (omega arith))
 
-different : (p : Entry → Bool) → ((e : Entry) → p e ≡ true → living e ≡ true) → (es : List Entry) → ((a : ℕ) → count a es ≤ 1) → Different (kept-by p es)
+pub different : (p : Entry → Bool) → ((e : Entry) → p e ≡ true → living e ≡ true) → (es : List Entry) → ((a : ℕ) → count a es ≤ 1) → Different (kept-by p es)
 unfolding count
 different p l [] o = tt
 different p l (e ∷ es) o = go (p e) refl (different p l es (λ a. omega (arith, o a)))
