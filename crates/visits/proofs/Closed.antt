@@ -22,12 +22,12 @@ use Rattle.law.specs.Posting.{by-day, holding, free-on}
 use Rattle.law.specs.Preemption.{wanted, taken, grant, supersede-all, give-all, holdings, defends, defenders, preempt, brings-challenger}
 use Rattle.law.specs.Calls.{run}
 use Rattle.law.specs.Keeps.{Termed}
-use Rattle.law.proofs.Places.{all-in-turn}
-use Rattle.law.proofs.Turn.{Sorted, Different, sorted-in-turn}
-use Rattle.law.proofs.Whole.{Holding}
-use Rattle.law.proofs.Keeps.{defenders-stand, defends-lives}
-use Rattle.law.proofs.Right.{Right, right-at, terms-at}
-use Rattle.law.proofs.Rightly.{different}
+use Rattle.law.proofs.AllPlaces.{all-in-turn}
+use Rattle.law.proofs.DefendersInTurn.{Sorted, Different, sorted-in-turn}
+use Rattle.law.proofs.HoldersInPlaces.{Holding}
+use Rattle.law.proofs.EveryCallKeeps.{defenders-stand, defends-lives}
+use Rattle.law.proofs.KeptOverRuns.{Right, right-at, terms-at}
+use Rattle.law.proofs.TakenInTurn.{different}
 use Rattle.law.proofs.Terms.{living-possible}
 use Rattle.visits.specs.ClosedForm.{superseded-on, granted-on, lines-by-day, superseded-lines, given-lines, preemption-lines, Closed-form}
 use Rattle.visits.proofs.AllVisits.{Pending, Not-pending, Faces, Visited, supersede-all-visits, grants-visit, give-all-skips, given-lines-skips, give-all-visits}

@@ -13,8 +13,8 @@ use Rattle.journal.specs.declared.line.LineKind.{LineKind}
 use Rattle.journal.specs.Accounts.{Account, sort, same, from, to, balance, Never-below-zero}
 use Rattle.law.specs.Posting.{post, by-day}
 use Rattle.law.specs.Preemption.{taken, brings-challenger}
-use Rattle.law.proofs.Posts.{balance-post, day-post, taken-post}
-use Rattle.law.proofs.Support.{nbz-post}
+use Rattle.law.proofs.PostingEffects.{balance-post, day-post, taken-post}
+use Rattle.law.proofs.Holders.{nbz-post}
 use Rattle.visits.specs.ClosedForm.{lines-by-day}
 
 -- on a day nothing has changed: neither what stands in an account nor what was taken for a challenger

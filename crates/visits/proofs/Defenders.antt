@@ -13,8 +13,8 @@ use Rattle.sheets.specs.Laws.{Possible, Lawful}
 use Rattle.shelf.specs.Order.{put}
 use Rattle.law.specs.View.{Entry, aref-of}
 use Rattle.law.specs.Preemption.{gives-before, in-turn}
-use Rattle.law.proofs.Places.{all-put, all-in-turn}
-use Rattle.law.proofs.Turn.{Sorted, Different}
+use Rattle.law.proofs.AllPlaces.{all-put, all-in-turn}
+use Rattle.law.proofs.DefendersInTurn.{Sorted, Different}
 use Rattle.visits.proofs.AllVisits.{Pending, Not-pending}
 
 -- putting one of another AREF among them

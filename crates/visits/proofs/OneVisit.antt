@@ -17,7 +17,7 @@ use Rattle.journal.specs.Accounts.{free, held, same, from, to, balance, Never-b
 use Rattle.law.specs.View.{Entry, aref-of, start-of, length-of}
 use Rattle.law.specs.Posting.{post, by-day, each-day, holding, free-on}
 use Rattle.law.specs.Preemption.{wanted, taken, short, meets-shortage, supersede, give, holdings, brings-challenger}
-use Rattle.law.proofs.Later.{In-term, each-true}
+use Rattle.law.proofs.ShrinkingShortage.{In-term, each-true}
 use Rattle.visits.specs.ClosedForm.{shortage-met, gives-on, lines-by-day}
 use Rattle.visits.proofs.DayPostings.{Day-stands, Moved, days-move}
 

@@ -14,7 +14,7 @@ use Rattle.journal.specs.declared.line.LineKind.{LineKind}
 use Rattle.law.specs.View.{Entry, aref-of, start-of, length-of}
 use Rattle.law.specs.Posting.{post, by-day, each-day, holding, free-on}
 use Rattle.law.specs.Preemption.{wanted, taken, short, meets-shortage, supersede, give, grant, supersede-all, give-all, defenders}
-use Rattle.law.proofs.Later.{each-true}
+use Rattle.law.proofs.ShrinkingShortage.{each-true}
 use Rattle.visits.specs.Visiting.{still-short, supersede-until, give-until, Stopping-changes-nothing}
 
 -- a test that holds everywhere holds on each day
