@@ -23,4 +23,5 @@ no-megawatt-lost R days places room cs =
       solvent = I .sound .fine .nbz;
       each-line = λ n day. none-lost (suc (v .top)) day (take n (v .lines)) (nbz-take n (v .lines) (I .sound .fine .nbz)) (all-take _ n (v .lines) (I .sound .fine .names));
       in-the-end = I .sound .fine .whole;
-      answered = λ day. four-sums v (accounted-right days v (days-at R cs (opened days places room)) I) day }
+      answered = λ day. four-sums v (accounted-right days v (days-at R cs (opened days places room)) I) day;
+    }

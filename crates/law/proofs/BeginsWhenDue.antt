@@ -51,6 +51,7 @@ module _ (t : ℕ) (κ : LineKind) (a b : ℕ) (amount : ℕ → List Line → �
     where
       l : Line
       l = record { minute = t; kind = κ; a = a; b = b; day = s; mw = amount s ls }
+
       go : ((ms : List Line) → Wrote (suc s) n ms (by-day daily (suc s) n ms)) → (eqb (amount s ls) 0 ≡ true) ⊎ (eqb (amount s ls) 0 ≡ false) →
           Wrote s (suc n) ls (by-day daily (suc s) n (cond (eqb (amount s ls) 0) ls (ls ++ record { minute = t; kind = κ; a = a; b = b; day = s; mw = amount s ls } ∷ [])))
       go ih (inl e) = rw e (none (ih ls))
@@ -130,6 +131,7 @@ module _ (t : ℕ) (κ : LineKind) (a b : ℕ) (amount : ℕ → List Line → �
     where
       clash : (xs : List Line) → somebody-gives-way xs ≡ false → by-day (λ day ms. post t κ a b day (amount day ms) ms) s n ls ≡ ls ++ xs → ⊥
       clash xs f q = false≢true (sym f ∙ (ap somebody-gives-way (append-cancel-left ls xs (g .0) (sym q ∙ g .1)) ∙ g .2))
+
       go : Wrote t κ a b amount s n ls (by-day (λ day ms. post t κ a b day (amount day ms) ms) s n ls) → ⊥
       go (inl w) = clash [] refl (w .0 ∙ sym (append-nil ls))
       go (inr w) = clash (w .0 ∷ w .1) (nobody-by κ e (w .0 ∷ w .1) (w .3, w .4)) (w .2)
@@ -146,6 +148,7 @@ module _ (t : ℕ) (r : Request) where
     where
       whole : List Line
       whole = by-day (λ day ms. post t Superseded (aref-of d) (r .aref) day (holding ms (aref-of d) day) ms) (start-of d) (length-of d) ls
+
       go : (meets-shortage r d ls ≡ true) ⊎ (meets-shortage r d ls ≡ false) → ((supersede t r d ls ≡ ls) × (meets-shortage r d ls ≡ false)) ⊎ Gave-way-since ls (supersede t r d ls)
       go (inr q) = inl (cond-false _ _ _ q, q)
       go (inl q) = pick (daily-gave t Superseded (aref-of d) (r .aref) (λ day ms. holding ms (aref-of d) day) (start-of d) (length-of d) ls refl)
@@ -239,13 +242,14 @@ module _ (t : ℕ) (r : Request) where
 
   even-post : (ls ms : List Line) (k m : ℕ) → m ≤ free-on ms k → Even ls ms → Even ls (post t Granted 0 (r .aref) k m ms)
   even-post ls ms k m paid E = record {
-      nbz = nbz-post ms (E .nbz) t Granted 0 (r .aref) k m paid;
-      same-in-all = λ j.
+    nbz = nbz-post ms (E .nbz) t Granted 0 (r .aref) k m paid;
+    same-in-all = λ j.
         let z : cond (eqb k j && false) m 0 ≡ 0 = cond-never (eqb k j) m in
         let w : cond (eqb k j && true) m 0 ≡ cond (eqb (r .aref) (r .aref) && eqb k j) m 0 = rw (eq-eqb (r .aref) (r .aref) refl) (and-ever (eqb k j)) in
         omega (arith, balance-post ms (E .nbz) t Granted 0 (r .aref) k m paid free j (omega arith), taken-post (r .aref) j t Granted 0 (r .aref) k m ms, E .same-in-all j);
-      same-others = λ c j ne.
-        omega (arith, E .same-others c j ne, less-post ms (E .nbz) t Granted 0 (r .aref) k m paid (held c) j (omega arith) (ne-eqb c (r .aref) ne), more-post ms (E .nbz) t Granted 0 (r .aref) k m paid (held c) j (omega arith) refl) }
+    same-others = λ c j ne.
+        omega (arith, E .same-others c j ne, less-post ms (E .nbz) t Granted 0 (r .aref) k m paid (held c) j (omega arith) (ne-eqb c (r .aref) ne), more-post ms (E .nbz) t Granted 0 (r .aref) k m paid (held c) j (omega arith) refl);
+  }
     where
       and-ever : (b : Bool) → cond (b && true) m 0 ≡ cond b m 0
       and-ever true = refl
@@ -288,8 +292,10 @@ module _ (R : Rules) (p : ℕ → ℕ) (v : View) (I : Right p v) (t : ℕ) (r :
     where
       G : List Line
       G = by-day (grant t r) (r .start) (r .length) (v .lines)
+
       even : Even t r (v .lines) (by-day (grant t r) (r .start) (r .length) (v .lines))
       even = even-grants t r (v .lines) (I .sound .fine .nbz)
+
       one : (d : Entry) → (find (aref-of d) (v .places) ≡ d) × (defends R t r (v .days) d ≡ true) × (r .aref ≡ aref-of d → ⊥) →
           (is-pending (d .standing .state) ≡ true → meets-shortage r d (v .lines) ≡ false) → (is-pending (d .standing .state) ≡ false → Nothing-due t r R d (by-day (grant t r) (r .start) (r .length) (v .lines))) →
           holding (v .lines) (aref-of d) k ≡ 0
@@ -301,7 +307,7 @@ module _ (R : Rules) (p : ℕ → ℕ) (v : View) (I : Right p v) (t : ℕ) (r :
               by-state i (cases-bool (is-pending (d .standing .state)))
             where
               by-state : Holding d k → (is-pending (d .standing .state) ≡ true) ⊎ (is-pending (d .standing .state) ≡ false) → ⊥
-              by-state i (inl q) = 
+              by-state i (inl q) =
                   let all = not-false _ (met q) in
                   either (or-cases _ _ (each-true (λ day. eqb (holding (v .lines) (aref-of d) day) 0 || eqb (short r day (v .lines)) 0) (start-of d) (length-of d) all k (i .1) (i .2)))
                 where
@@ -311,9 +317,11 @@ module _ (R : Rules) (p : ℕ → ℕ) (v : View) (I : Right p v) (t : ℕ) (r :
               by-state i (inr q) =
                   let z = due q k (i .1) (i .2) in
                   omega (arith, z, short-even t r (v .lines) (by-day (grant t r) (r .start) (r .length) (v .lines)) even k, even .same-others (aref-of d) k (λ (e : aref-of d ≡ r .aref). stand .2 (sym e)))
+
           go : (0 < holding (v .lines) (aref-of d) k) ⊎ (holding (v .lines) (aref-of d) k ≤ 0) → holding (v .lines) (aref-of d) k ≡ 0
           go (inl h) = absurd (bare h)
           go (inr h) = omega arith
+
       all-none : (es : List Entry) → All (λ d. (find (aref-of d) (v .places) ≡ d) × (defends R t r (v .days) d ≡ true) × (r .aref ≡ aref-of d → ⊥)) es →
           None-met t r es (v .lines) → None-due t r R es (by-day (grant t r) (r .start) (r .length) (v .lines)) → holdings (v .lines) es k ≡ 0
       all-none [] s m n = refl
@@ -327,8 +335,10 @@ module _ (R : Rules) (p : ℕ → ℕ) (v : View) (I : Right p v) (t : ℕ) (r :
     where
       grants : List Line → List Line
       grants ms = by-day (grant t r) (r .start) (r .length) ms
+
       grants-grown : (ms : List Line) → Grown ms (by-day (grant t r) (r .start) (r .length) ms)
       grants-grown ms = daily-grown t Granted 0 (r .aref) (λ day ns. min (free-on ns day) (wanted r day)) (r .start) (r .length) ms
+
       second : (supersede-all t r (defenders R t r v) (v .lines) ≡ v .lines) × None-met t r (defenders R t r v) (v .lines) →
           ((give-all R t r (defenders R t r v) (by-day (grant t r) (r .start) (r .length) (v .lines)) ≡ by-day (grant t r) (r .start) (r .length) (v .lines)) × None-due t r R (defenders R t r v) (by-day (grant t r) (r .start) (r .length) (v .lines))) ⊎ Gave-way-since (by-day (grant t r) (r .start) (r .length) (v .lines)) (give-all R t r (defenders R t r v) (by-day (grant t r) (r .start) (r .length) (v .lines))) →
           Gave-way-since (v .lines) (preempt R t r v)
@@ -345,6 +355,7 @@ module _ (R : Rules) (p : ℕ → ℕ) (v : View) (I : Right p v) (t : ℕ) (r :
             where
               noted-new : (k : ℕ) → taken (r .aref) k (v .lines) ≡ 0
               noted-new k = taken-none (r .aref) k (suc (v .top)) (v .lines) (omega arith) (I .sound .fine .names)
+
       first : ((supersede-all t r (defenders R t r v) (v .lines) ≡ v .lines) × None-met t r (defenders R t r v) (v .lines)) ⊎ Gave-way-since (v .lines) (supersede-all t r (defenders R t r v) (v .lines)) → Gave-way-since (v .lines) (preempt R t r v)
       first (inr g) = gave-then (v .lines) _ _ g (grown-trans _ _ _ (grants-grown _) (give-all-grown t r R (defenders R t r v) _))
       first (inl w) = second w (all-gave-or-not t r R (defenders R t r v) (by-day (grant t r) (r .start) (r .length) (v .lines)))
@@ -371,8 +382,8 @@ module _ (R : Rules) (p : ℕ → ℕ) (v : View) (I : Right p v) (t : ℕ) (r :
       holds-if Known _ _ _ (λ _. holds Known _ _ _ _ (λ g. absurd (grants-not-gave g))) (λ lacking.
       holds-stop Known _ _ _ (λ closed.
       holds-if Known _ _ _ (λ both. holds Known _ _ _ _ (λ g.
-        (record { minute-fits = minute; nothing-due = due; aref-new = above; term-offered = offered; carried = not-false _ carried; place-free = not-false _ full }, lacking, closed, both, refl)))
-      (λ _. holds-stop Known _ _ _ (λ _. holds Known _ _ _ Offered (λ g. absurd (grants-not-gave g)))))))))))) 
+      (record { minute-fits = minute; nothing-due = due; aref-new = above; term-offered = offered; carried = not-false _ carried; place-free = not-false _ full }, lacking, closed, both, refl)))
+      (λ _. holds-stop Known _ _ _ (λ _. holds Known _ _ _ Offered (λ g. absurd (grants-not-gave g))))))))))))
 
   not-gave-same : Gave-way-since (v .lines) (v .lines) → ⊥
   not-gave-same g = false≢true (sym (ap somebody-gives-way (append-cancel-left (v .lines) (g .0) [] (sym (g .1) ∙ sym (append-nil (v .lines))))) ∙ g .2)
@@ -387,8 +398,14 @@ module _ (R : Rules) (p : ℕ → ℕ) (v : View) (I : Right p v) (t : ℕ) (r :
       room (inr q) =
           let k = h (rw q at g) in
           let b = and-parts _ _ (k .3) in
-          record { not-stopped = k .0; short-somewhere = k .1; no-match-open = k .2; in-time = b .0; can-be-met = b .1;
-                   lines-suffice = subst (λ ns. length ns ≤ v .room) (k .4) (ltb-false (v .room) (length ms) q) }
+          record {
+            not-stopped = k .0;
+            short-somewhere = k .1;
+            no-match-open = k .2;
+            in-time = b .0;
+            can-be-met = b .1;
+            lines-suffice = subst (λ ns. length ns ≤ v .room) (k .4) (ltb-false (v .room) (length ms) q);
+          }
 
   pub due-if-gave : Gave-way-since (v .lines) (step R (submit t r) v .1 .lines) → Preemption-due R t r v
   unfolding step
@@ -400,9 +417,11 @@ module _ (R : Rules) (p : ℕ → ℕ) (v : View) (I : Right p v) (t : ℕ) (r :
     where
       N : Not-stopped R t r v
       N = D .not-stopped
+
       made : asked R (submit t r) v ≡ entered R t r (cond (match-open (map (after-preempt R t r v (preempt R t r v)) (v .places))) Competing Confirmed) (preempt R t r v) (map (after-preempt R t r v (preempt R t r v)) (v .places))
       made = passes _ _ _ (N .minute-fits) ∙ (passes _ _ _ (N .nothing-due) ∙ (passes _ _ _ (N .aref-new) ∙ (passes _ _ _ (N .term-offered) ∙ (passes _ _ _ (ap not (N .carried)) ∙ (passes _ _ _ (ap not (N .place-free))
           ∙ (goes-on _ _ _ (D .short-somewhere) ∙ (passes _ _ _ (D .no-match-open) ∙ goes-in _ _ _ (and-from _ _ (D .in-time) (D .can-be-met)))))))))
+
       lines-are : step R (submit t r) v .1 .lines ≡ preempt R t r v
       lines-are = ap (λ m. written (submit t r) v m .1 .lines) made ∙ fits (le-ltb (v .room) (length (preempt R t r v)) (D .lines-suffice))
         where

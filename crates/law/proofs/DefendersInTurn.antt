@@ -52,16 +52,17 @@ module _ (R : Rules) (L : Lawful R) where
   turn-total : Total aref-of (λ e. Possible (e .standing .request)) (gives-before R)
   turn-total = record {
     one-first = λ a b p q ne. L .one-first (a .standing) (b .standing) p q ne;
-    in-line = λ a b c p q r. L .in-line (a .standing) (b .standing) (c .standing) p q r }
+    in-line = λ a b c p q r. L .in-line (a .standing) (b .standing) (c .standing) p q r;
+  }
 
   pub sorted-in-turn : (ds : List Entry) → Different ds → Lasting ds → Sorted R (in-turn R ds)
   unfolding in-turn
   sorted-in-turn [] h l = tt
   sorted-in-turn (d ∷ ds) h l =
       stays-in-order aref-of (λ e. Possible (e .standing .request)) (gives-before R) turn-total (in-turn R ds) d
-        (all-in-turn (λ e. Possible (e .standing .request)) R ds (l .1)) (l .0)
-        (all-in-turn (λ e. aref-of e ≢ aref-of d) R ds (all-weaker _ _ (λ e n q. n (sym q)) ds (h .0)))
-        (sorted-in-turn ds (h .1) (l .1))
+      (all-in-turn (λ e. Possible (e .standing .request)) R ds (l .1)) (l .0)
+      (all-in-turn (λ e. aref-of e ≢ aref-of d) R ds (all-weaker _ _ (λ e n q. n (sym q)) ds (h .0)))
+      (sorted-in-turn ds (h .1) (l .1))
 
 pub sorted-split : (R : Rules) (pre : List Entry) (d : Entry) (rest : List Entry) → Sorted R (pre ++ d ∷ rest) → All (λ e. R .gives-before (d .standing) (e .standing) ≡ true) rest
 sorted-split R [] d rest s = s .0
@@ -110,4 +111,3 @@ find-in a (e ∷ es) h = go (λ (l : living (find a es) ≡ true). find-in a es 
     go : (living (find a es) ≡ true → List·Memᴰ (find a es) es) → (is a e ≡ true) ⊎ (is a e ≡ false) → List·Memᴰ (cond (is a e) e (find a es)) (e ∷ es)
     go ih (inl q) = rw q (List·Memᴰ·head refl)
     go ih (inr q) = rw q (List·Memᴰ·tail (ih (rw q at h)))
-

@@ -132,8 +132,8 @@ module _ (R : Rules) (v : View) (W : Whole (v .lines) (v .places)) (low : All (L
   pub defenders-stand : (t : ℕ) (r : Request) → v .top < r .aref → All (λ d. (find (aref-of d) (v .places) ≡ d) × (Preemption.defends R t r (v .days) d ≡ true) × (r .aref ≡ aref-of d → ⊥)) (Preemption.defenders R t r v)
   defenders-stand t r up = all-in-turn _ R _
       (all-weaker (λ e. ((living e ≡ true → find (aref-of e) (v .places) ≡ e) × Low (v .top) e) × (Preemption.defends R t r (v .days) e ≡ true)) _
-        (λ e h. (h .0 .0 (defends-lives R t r v e (h .1)), h .1, (λ (q : r .aref ≡ aref-of e). omega arith))) _
-        (all-both _ _ _ (all-kept _ (Preemption.defends R t r (v .days)) (v .places) (all-both _ _ (v .places) (all-found (v .places) (W .once)) low)) (kept-pass (Preemption.defends R t r (v .days)) (v .places))))
+      (λ e h. (h .0 .0 (defends-lives R t r v e (h .1)), h .1, (λ (q : r .aref ≡ aref-of e). omega arith))) _
+      (all-both _ _ _ (all-kept _ (Preemption.defends R t r (v .days)) (v .places) (all-both _ _ (v .places) (all-found (v .places) (W .once)) low)) (kept-pass (Preemption.defends R t r (v .days)) (v .places))))
 
   pub supp-preempt : (t : ℕ) (r : Request) → v .top < r .aref → Supp (Hold⁺ (v .places) r) (Side⁺ (pr R t r v (Preemption.preempt R t r v)) (v .places) r) (Preemption.preempt R t r v)
   supp-preempt t r up = fit-preempt R t r (pr R t r v (Preemption.preempt R t r v)) (v .places) (Preemption.defenders R t r v)
@@ -150,7 +150,7 @@ module _ (R : Rules) (v : View) (W : Whole (v .lines) (v .places)) (low : All (L
       holds-if Whole _ _ _ (λ _. holds Whole _ _ _ _ (whole-granted R t r (cond (r .preconfirmed) Confirmed Accepted) (v .places) (v .lines) (alive (r .preconfirmed)) place new W)) (λ _.
       holds-stop Whole _ _ _ (λ closed.
       holds-if Whole _ _ _ (λ _. holds Whole _ _ _ _ (whole-preempted R t r v (Preemption.preempt R t r v) W closed (some-map _ (tame-after R t r v _) (v .places) place) new
-        (supp-preempt t r up)))  (λ _.
+      (supp-preempt t r up))) (λ _.
       holds-stop Whole _ _ _ (λ _. holds Whole _ _ _ _ (whole-granted R t r Offered (v .places) (v .lines) refl place new W)))))))))
     where
       alive : (c : Bool) → not (is-gone (cond c Confirmed Accepted)) ≡ true
@@ -192,8 +192,10 @@ module _ (R : Rules) (v : View) (W : Whole (v .lines) (v .places)) (low : All (L
     where
       Grows : Call → List Line → List Entry → Type 0
       Grows d ls es = v .top ≤ new-top d (v .top)
+
       always : (P : Type 0) → P → (m : Made) → Holds (λ ls es. P) m
       always P p m = all-holds P p m
+
       grows : (d : Call) → Holds (λ ls es. v .top ≤ new-top d (v .top)) (makes-of R d v)
       grows (submit t r) = holds-stop (λ ls es. v .top ≤ r .aref) _ _ _ (λ above. all-holds (v .top ≤ r .aref) (let up = leb-false (r .aref) (v .top) above in omega arith) _)
       grows (confirm t a) = all-holds _ (omega arith) _

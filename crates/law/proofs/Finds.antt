@@ -59,6 +59,7 @@ count-map g T a (e ∷ es) = go (count-map g T a es) (cases-bool (is a e))
     one : (c : Bool) → cond c 1 0 ≤ 1
     one true = omega arith
     one false = omega arith
+
     go : count a (map g es) ≤ count a es → (is a e ≡ true) ⊎ (is a e ≡ false) → cond (is a (g e)) 1 0 + count a (map g es) ≤ cond (is a e) 1 0 + count a es
     go ih (inl q) = let z = one (is a (g e)) in rw q (omega arith)
     go ih (inr q) = rw (q, is-not g T a e q) (omega arith)
@@ -88,6 +89,7 @@ module _ (x : Entry) where
     where
       no : is a x ≡ false
       no = and-right (living x) (eqb (aref-of x) a) (ne-eqb (aref-of x) a ne)
+
       go : find a (seat x es) ≡ find a es → (living e ≡ true) ⊎ (living e ≡ false) → find a (cond (living e) (e ∷ seat x es) (x ∷ es)) ≡ cond (is a e) e (find a es)
       go ih (inl q) = rw (cond-true (living e) (e ∷ seat x es) (x ∷ es) q) (ap (λ f. cond (is a e) e f) ih)
       go ih (inr q) = rw (cond-false (living e) (e ∷ seat x es) (x ∷ es) q, no, cond-false (is a e) e (find a es) (and-left (living e) (eqb (aref-of e) a) q)) refl
@@ -99,6 +101,7 @@ module _ (x : Entry) where
     where
       yes′ : is (aref-of x) x ≡ true
       yes′ = and-from (living x) (eqb (aref-of x) (aref-of x)) l (eq-eqb (aref-of x) (aref-of x) refl)
+
       go : (some (λ e. is-gone (e .standing .state)) es ≡ true → count (aref-of x) es ≡ 0 → find (aref-of x) (seat x es) ≡ x) → (living e ≡ true) ⊎ (living e ≡ false) → (is (aref-of x) e ≡ true) ⊎ (is (aref-of x) e ≡ false) → find (aref-of x) (cond (living e) (e ∷ seat x es) (x ∷ es)) ≡ x
       go ih (inl q) (inl w) = let z = rw w at c in let b : ⊥ = omega arith in absurd b
       go ih (inl q) (inr w) = rw (cond-true (living e) (e ∷ seat x es) (x ∷ es) q, w) (ih (rw (not-true (is-gone (e .standing .state)) q) at s) (let z = rw w at c in omega arith))

@@ -32,6 +32,7 @@ days-each f P Z s (suc d) h z y ls p j lo hi = go (λ (q : suc s ≤ j). days-ea
   where
     after : Z s (f s ls) → (P (f s ls) × Z s (f s ls)) → Z s (by-day f (suc s) d (f s ls))
     after q w = days-ind f (λ ms. P ms × Z s ms) (suc s) d (λ k ms l u c. (h k ms (omega arith) (omega arith) (c .0), y s k ms (c .0) (c .1))) (f s ls) w .1
+
     go : (suc s ≤ j → Z j (by-day f (suc s) d (f s ls))) → (s ≡ j) ⊎ (s ≡ j → ⊥) → Z j (by-day f (suc s) d (f s ls))
     go ih (inl e) = subst (λ i. Z i (by-day f (suc s) d (f s ls))) e (after (z s ls p) (h s ls (omega arith) (omega arith) p, z s ls p))
     go ih (inr ne) = ih (omega arith)
@@ -42,6 +43,7 @@ nbz-post ls f t κ a b k m paid = go (eqb m 0)
   where
     l : Line
     l = record { minute = t; kind = κ; a = a; b = b; day = k; mw = m }
+
     go : (c : Bool) → Never-below-zero (cond c ls (ls ++ record { minute = t; kind = κ; a = a; b = b; day = k; mw = m } ∷ []))
     go true = f
     go false = nbz-push ls (record { minute = t; kind = κ; a = a; b = b; day = k; mw = m }) f (λ j x q. omega (arith, never-overdrawn ls f j x q, takes-le x j (record { minute = t; kind = κ; a = a; b = b; day = k; mw = m }) (balance ls) paid))
@@ -67,6 +69,7 @@ module _ (H : ℕ → ℕ → Type 0) (A : ℕ → ℕ → ℕ → Type 0) where
     where
       e : balance (post t κ a b k m ls) x j + cond (eqb k j && same x (from κ a b)) m 0 ≡ balance ls x j + cond (eqb k j && same x (to κ a b)) m 0
       e = balance-post ls f t κ a b k m paid x j r
+
       go : (0 < balance ls x j) ⊎ (balance ls x j ≤ 0) → ((eqb k j && same x (to κ a b)) ≡ true) ⊎ ((eqb k j && same x (to κ a b)) ≡ false) → Allowed H A j x
       go (inl o) q = old o
       go (inr o) (inl q) =
@@ -77,9 +80,10 @@ module _ (H : ℕ → ℕ → Type 0) (A : ℕ → ℕ → ℕ → Type 0) where
 
   pub supp-post : (t : ℕ) (κ : LineKind) (a b k m : ℕ) (ls : List Line) → m ≤ balance ls (from κ a b) k → (0 < m → Allowed H A k (to κ a b)) → Supp H A ls → Supp H A (post t κ a b k m ls)
   supp-post t κ a b k m ls paid w s = record {
-      nbz = nbz-post ls (s .nbz) t κ a b k m paid;
-      holds = λ c j p. had ls (s .nbz) t κ a b k m paid w (held c) j (omega arith) (λ q. s .holds c j q) p;
-      asides = λ c d j p. had ls (s .nbz) t κ a b k m paid w (aside c d) j (omega arith) (λ q. s .asides c d j q) p }
+    nbz = nbz-post ls (s .nbz) t κ a b k m paid;
+    holds = λ c j p. had ls (s .nbz) t κ a b k m paid w (held c) j (omega arith) (λ q. s .holds c j q) p;
+    asides = λ c d j p. had ls (s .nbz) t κ a b k m paid w (aside c d) j (omega arith) (λ q. s .asides c d j q) p;
+  }
 
 pub supp-into : (H H′ : ℕ → ℕ → Type 0) (A A′ : ℕ → ℕ → ℕ → Type 0) (ls : List Line) →
     ((a k : ℕ) → 0 < holding ls a k → H a k → H′ a k) → ((a b k : ℕ) → 0 < balance ls (aside a b) k → A a b k → A′ a b k) → Supp H A ls → Supp H′ A′ ls

@@ -55,9 +55,10 @@ pub supp-map : (H : ℕ → ℕ → Type 0) (A : ℕ → ℕ → ℕ → Type 0)
     Supp H A ls → Supp (Within (map g es)) (Apart (map g es)) ls
 supp-map H A g T es ls h s p = supp-into H (Within (map g es)) A (Apart (map g es)) ls
     (λ c k q w. let u = h c k q w in subst (λ e. Holding e k) (sym (find-map g T c es (u .0) (u .1 .0))) (u .1))
-    (λ a b k q w. let u = s a b k q w in
-       (subst (λ e. Siding e b k) (sym (find-map g T a es (u .0) (u .2 .0 .0 .0))) (u .2 .0),
-        subst (λ e. Facing e k) (sym (find-map g T b es (u .1) (u .2 .1 .0 .0))) (u .2 .1))) p
+    (λ a b k q w. let u = s a b k q w in (
+      subst (λ e. Siding e b k) (sym (find-map g T a es (u .0) (u .2 .0 .0 .0))) (u .2 .0),
+      subst (λ e. Facing e k) (sym (find-map g T b es (u .1) (u .2 .1 .0 .0))) (u .2 .1),
+    )) p
 
 pub tame-change : (a : ℕ) (f : Entry → Entry) → ((e : Entry) → is a e ≡ true → aref-of (f e) ≡ a) → Tame (λ e. cond (is a e) (f e) e)
 tame-change a f h = record { same-aref = λ e. one e (is a e) refl; stays-gone = λ e l. two e l (cases-bool (is a e)) }
@@ -65,6 +66,7 @@ tame-change a f h = record { same-aref = λ e. one e (is a e) refl; stays-gone =
     one : (e : Entry) (c : Bool) → is a e ≡ c → aref-of (cond c (f e) e) ≡ aref-of e
     one e true q = h e q ∙ sym (eqb-true (aref-of e) a (and-parts (living e) (eqb (aref-of e) a) q .1))
     one e false q = refl
+
     two : (e : Entry) → living e ≡ false → (is a e ≡ true) ⊎ (is a e ≡ false) → living (cond (is a e) (f e) e) ≡ false
     two e l (inl q) = absurd (false≢true (sym l ∙ and-parts (living e) (eqb (aref-of e) a) q .0))
     two e l (inr q) = rw (cond-false (is a e) (f e) e q) l
@@ -84,15 +86,19 @@ module _ (H : ℕ → ℕ → Type 0) (A : ℕ → ℕ → ℕ → Type 0) (a₀
       Supp H A ls → Supp (Within (change a₀ f es)) (Apart (change a₀ f es)) ls
   supp-change own rest sides p = supp-map H A _ (tame-change a₀ f t) es ls
       (λ c k q w. hold c k q w (cases-eq a₀ c))
-      (λ a b k q w. let u = sides a b k q w in
-         (u .0 .0 .0 .0, u .0 .1 .0 .0,
-          (subst (λ e. Siding e b k) (sym (cond-false (is a₀ (find a es)) (f (find a es)) (find a es) (is-find a₀ a es (u .0 .0 .0 .0) (u .1)))) (u .0 .0),
-           subst (λ e. Facing e k) (sym (cond-false (is a₀ (find b es)) (f (find b es)) (find b es) (is-find a₀ b es (u .0 .1 .0 .0) (u .2)))) (u .0 .1)))) p
+      (λ a b k q w. let u = sides a b k q w in (
+        u .0 .0 .0 .0,
+        u .0 .1 .0 .0,
+        (
+          subst (λ e. Siding e b k) (sym (cond-false (is a₀ (find a es)) (f (find a es)) (find a es) (is-find a₀ a es (u .0 .0 .0 .0) (u .1)))) (u .0 .0),
+          subst (λ e. Facing e k) (sym (cond-false (is a₀ (find b es)) (f (find b es)) (find b es) (is-find a₀ b es (u .0 .1 .0 .0) (u .2)))) (u .0 .1),
+        ),
+      )) p
     where
       hold : (c k : ℕ) → 0 < holding ls c k → H c k → (a₀ ≡ c) ⊎ (a₀ ≡ c → ⊥) → (living (find c es) ≡ true) × Holding (cond (is a₀ (find c es)) (f (find c es)) (find c es)) k
       hold c k q w (inl e) = subst (λ x. (living (find x es) ≡ true) × Holding (cond (is a₀ (find x es)) (f (find x es)) (find x es)) k) e
           (let u = own k (subst (λ x. 0 < holding ls x k) (sym e) q) (subst (λ x. H x k) (sym e) w) in
-           (u .0, subst (λ x. Holding x k) (sym (cond-true (is a₀ (find a₀ es)) (f (find a₀ es)) (find a₀ es) (is-found a₀ es (u .0)))) (u .1)))
+          (u .0, subst (λ x. Holding x k) (sym (cond-true (is a₀ (find a₀ es)) (f (find a₀ es)) (find a₀ es) (is-found a₀ es (u .0)))) (u .1)))
       hold c k q w (inr ne) = let u = rest c k ne w in
           (u .0, subst (λ x. Holding x k) (sym (cond-false (is a₀ (find c es)) (f (find c es)) (find c es) (is-find a₀ c es (u .0) ne))) u)
 

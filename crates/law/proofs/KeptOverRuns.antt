@@ -39,12 +39,17 @@ right-run R p [] v r = r
 right-run R p (c ∷ cs) v r = right-run R p cs (step R c v .1) (right-step R p v r c)
 
 pub right-opened : (days : Days) (places room : ℕ) → Right (posted-on days) (opened days places room)
-right-opened days places room = record { sound = sound-opened days places room; whole = record {
+right-opened days places room = record {
+  sound = sound-opened days places room;
+  whole = record {
     supp = record {
       nbz = sound-opened days places room .fine .nbz;
       holds = λ a k p. absurd (let z = postings-elsewhere (days .amounts) (held a) k (omega arith) in omega arith);
-      asides = λ a b k p. absurd (let z = postings-elsewhere (days .amounts) (aside a b) k (omega arith) in omega arith) };
-    once = λ a. omega (arith, count-nobody a places) } }
+      asides = λ a b k p. absurd (let z = postings-elsewhere (days .amounts) (aside a b) k (omega arith) in omega arith);
+    };
+    once = λ a. omega (arith, count-nobody a places);
+  };
+}
 
 pub right-at : (R : Rules) (days : Days) (places room : ℕ) (cs : List Call) → Right (posted-on days) (run R cs (opened days places room))
 right-at R days places room cs = right-run R (posted-on days) cs (opened days places room) (right-opened days places room)
@@ -66,18 +71,20 @@ days-at R (c ∷ cs) v = days-at R cs (step R c v .1) ∙ days-stay R c v
 
 pub accounted-right : (days : Days) (v : View) → v .days ≡ days → Right (posted-on days) v → Accounted v
 accounted-right days v e I = record {
-    solvent = I .sound .fine .nbz;
-    named = I .sound .fine .names;
-    posted = λ day. I .sound .fine .whole day ∙ ap (λ ds. posted-on ds day) (sym e);
-    holders = I .whole .supp .holds;
-    challenged = λ a b day p. I .whole .supp .asides a b day p .0;
-    once = I .whole .once;
-    accepted = I .sound .low }
+  solvent = I .sound .fine .nbz;
+  named = I .sound .fine .names;
+  posted = λ day. I .sound .fine .whole day ∙ ap (λ ds. posted-on ds day) (sym e);
+  holders = I .whole .supp .holds;
+  challenged = λ a b day p. I .whole .supp .asides a b day p .0;
+  once = I .whole .once;
+  accepted = I .sound .low;
+}
 
 right-kept : (v : View) → Kept v → Right (posted-on (v .days)) v
 right-kept v K = record {
-    sound = record { fine = record { nbz = K .solvent; names = K .named; whole = K .posted }; low = K .accepted };
-    whole = record { supp = record { nbz = K .solvent; holds = K .holders; asides = λ a b day p. (K .challenged a b day p, K .competing a b day p) }; once = K .once } }
+  sound = record { fine = record { nbz = K .solvent; names = K .named; whole = K .posted }; low = K .accepted };
+  whole = record { supp = record { nbz = K .solvent; holds = K .holders; asides = λ a b day p. (K .challenged a b day p, K .competing a b day p) }; once = K .once };
+}
 
 pub every-call-keeps : Every-call-keeps
 every-call-keeps R v c K h =
@@ -96,4 +103,5 @@ every-call-keeps R v c K h =
       competing = λ a b day p. I .whole .supp .asides a b day p .1;
       once = I .whole .once;
       terms = subst (λ days. All (Termed days) (w .places)) e (terms-step R v (K .terms) c h);
-      accepted = I .sound .low }
+      accepted = I .sound .low;
+    }

@@ -53,9 +53,10 @@ module _ (es : List Entry) (ls : List Line) (W : Whole ls es) where
 
   pub whole-confirm : (a : ℕ) → living (find a es) ≡ true → is-pending (find a es .standing .state) ≡ true → Whole ls (change a Places.stand-confirmed es)
   whole-confirm a l p = record {
-      supp = supp-change (Within es) (Apart es) a Places.stand-confirmed (λ e q. eqb-true (aref-of e) a (and-parts (living e) (eqb (aref-of e) a) q .1)) es ls
+    supp = supp-change (Within es) (Apart es) a Places.stand-confirmed (λ e q. eqb-true (aref-of e) a (and-parts (living e) (eqb (aref-of e) a) q .1)) es ls
         (λ k q w. (l, (refl, w .1, w .2))) (λ c k ne w. w) (λ b c k q w. plain es a (inl p) b c k w) S;
-      once = λ c. omega (arith, W .once c, count-map _ (tame-change a Places.stand-confirmed (λ e q. eqb-true (aref-of e) a (and-parts (living e) (eqb (aref-of e) a) q .1))) c es) }
+    once = λ c. omega (arith, W .once c, count-map _ (tame-change a Places.stand-confirmed (λ e q. eqb-true (aref-of e) a (and-parts (living e) (eqb (aref-of e) a) q .1))) c es);
+  }
 
   -- all that e holds leaves it, and e is gone
   whole-leave : (e : Entry) (f : ℕ → List Line → List Line) → Found es e → (is-pending (e .standing .state) ≡ true) ⊎ (is-confirmed (e .standing .state) ≡ true) →
@@ -64,15 +65,18 @@ module _ (es : List Entry) (ls : List Line) (W : Whole ls es) where
       ((j k : ℕ) (ms : List Line) → Never-below-zero ms → holding (f k ms) (aref-of e) j ≤ holding ms (aref-of e) j) →
       Whole (by-day f (start-of e) (length-of e) ls) (change (aref-of e) leave es)
   whole-leave e f E st keeps zeroes lessens = record {
-      supp = supp-change (Within es) (Apart es) (aref-of e) leave (λ x q. eqb-true (aref-of x) (aref-of e) (and-parts (living x) (eqb (aref-of x) (aref-of e)) q .1)) es ms
+    supp = supp-change (Within es) (Apart es) (aref-of e) leave (λ x q. eqb-true (aref-of x) (aref-of e) (and-parts (living x) (eqb (aref-of x) (aref-of e)) q .1)) es ms
         (λ k q w. let v = subst (λ x. Holding x k) (E .1) w in let z = zero′ k (v .1) (v .2) in let b : ⊥ = omega arith in absurd b)
         (λ c k ne w. w) (λ b c k q w. plain es (aref-of e) (subst (λ x. (is-pending (x .standing .state) ≡ true) ⊎ (is-confirmed (x .standing .state) ≡ true)) (sym (E .1)) st) b c k w) S′;
-      once = λ c. omega (arith, W .once c, count-map _ (tame-change (aref-of e) leave (λ x q. eqb-true (aref-of x) (aref-of e) (and-parts (living x) (eqb (aref-of x) (aref-of e)) q .1))) c es) }
+    once = λ c. omega (arith, W .once c, count-map _ (tame-change (aref-of e) leave (λ x q. eqb-true (aref-of x) (aref-of e) (and-parts (living x) (eqb (aref-of x) (aref-of e)) q .1))) c es);
+  }
     where
       ms : List Line
       ms = by-day f (start-of e) (length-of e) ls
+
       S′ : Supp (Within es) (Apart es) (by-day f (start-of e) (length-of e) ls)
       S′ = days-ind f (Supp (Within es) (Apart es)) (start-of e) (length-of e) (λ k ms lo hi p. keeps k ms p) ls S
+
       zero′ : (k : ℕ) → start-of e ≤ k → k < start-of e + length-of e → holding (by-day f (start-of e) (length-of e) ls) (aref-of e) k ≡ 0
       zero′ k lo hi = days-each f (Supp (Within es) (Apart es)) (λ j ms. holding ms (aref-of e) j ≡ 0) (start-of e) (length-of e) (λ k ms l h p. keeps k ms p) (λ k ms p. zeroes k ms (p .nbz)) (λ i j ms p z. omega (arith, lessens i j ms (p .nbz))) ls S k lo hi
 
@@ -95,26 +99,33 @@ module _ (es : List Entry) (ls : List Line) (W : Whole ls es) where
       shape : (c : Bool) (x y : ℕ) (s : State) (e : Entry) (k : ℕ) → not (is-gone s) ≡ true → start-of e ≤ k → k < start-of e + length-of e → Holding (cond c (due-at x (in-state s e)) (due-at y (in-state s e))) k
       shape true x y s e k l lo hi = (l, lo, hi)
       shape false x y s e k l lo hi = (l, lo, hi)
+
       name : (c : Bool) (x y : ℕ) (s : State) (e : Entry) → aref-of (cond c (due-at x (in-state s e)) (due-at y (in-state s e))) ≡ aref-of e
       name true x y s e = refl
       name false x y s e = refl
+
       lives : (p q : Bool) → (q ≡ true → ⊥) → not (is-gone (cond p Confirmed (cond q Gone Offered))) ≡ true
       lives true q n = refl
       lives false true n = absurd (n refl)
       lives false false n = refl
+
       called : (e : Entry) → is b e ≡ true → aref-of (Calls.close R t ls e) ≡ b
       called e q = name (is-pending (Calls.closed-state ls e)) _ _ (Calls.closed-state ls e) e ∙ eqb-true (aref-of e) b (and-parts (living e) (eqb (aref-of e) b) q .1)
+
       go : (c : Bool) → Places.match-open es ≡ c → Whole ls (cond c es (change b (Calls.close R t ls) es))
       go true q = W
       go false q = record {
-          supp = supp-change (Within es) (Apart es) b (Calls.close R t ls) called es ls
-            (λ k h w. let a = find-aref b es (w .0) in
-               (w .0, shape (is-pending (Calls.closed-state ls (find b es))) _ _ (Calls.closed-state ls (find b es)) (find b es) k
-                 (lives _ (empty ls (find b es)) (λ m. not-empty ls (find b es) k m (w .1) (w .2) (subst (λ x. 0 < holding ls x k) (sym a) h))) (w .1) (w .2)))
+        supp = supp-change (Within es) (Apart es) b (Calls.close R t ls) called es ls
+            (λ k h w. let a = find-aref b es (w .0) in (
+              w .0,
+              shape (is-pending (Calls.closed-state ls (find b es))) _ _ (Calls.closed-state ls (find b es)) (find b es) k
+                  (lives _ (empty ls (find b es)) (λ m. not-empty ls (find b es) k m (w .1) (w .2) (subst (λ x. 0 < holding ls x k) (sym a) h))) (w .1) (w .2),
+            ))
             (λ c k ne w. w)
             (λ a c k h w. absurd (false≢true (sym (all-find (λ x. is-challenged (x .standing .state) ≡ false) a es refl (none-false _ es q)) ∙ w .0 .1)))
             S;
-          once = λ c. omega (arith, W .once c, count-map _ (tame-change b (Calls.close R t ls) called) c es) }
+        once = λ c. omega (arith, W .once c, count-map _ (tame-change b (Calls.close R t ls) called) c es);
+      }
 
 module _ (R : Rules) (t : ℕ) (es : List Entry) (ls : List Line) (W : Whole ls es) (e : Entry) (E : Found es e) (C : is-challenged (e .standing .state) ≡ true) where
   a : ℕ
@@ -133,9 +144,11 @@ module _ (R : Rules) (t : ℕ) (es : List Entry) (ls : List Line) (W : Whole ls 
 
   -- another match is of another record, and no challenger is e
   others : (c b k : ℕ) → Apart es c b k → (aref-of e ≡ c → e .against ≡ b → ⊥) → Apart es c b k × (aref-of e ≡ c → ⊥) × (aref-of e ≡ b → ⊥)
-  others c b k w n =
-      (w, (λ q. n q (sym (ap (λ x. x .against) (E .1)) ∙ (ap (λ x. find x es .against) q ∙ w .0 .2))),
-       (λ q. false≢true (sym (not-competing (e .standing .state) C) ∙ (sym (ap (λ x. is-competing (x .standing .state)) (E .1)) ∙ (ap (λ x. is-competing (find x es .standing .state)) q ∙ w .1 .1)))))
+  others c b k w n = (
+    w,
+    (λ q. n q (sym (ap (λ x. x .against) (E .1)) ∙ (ap (λ x. find x es .against) q ∙ w .0 .2))),
+    (λ q. false≢true (sym (not-competing (e .standing .state) C) ∙ (sym (ap (λ x. is-competing (x .standing .state)) (E .1)) ∙ (ap (λ x. is-competing (find x es .standing .state)) q ∙ w .1 .1)))),
+  )
 
   abbrev lost : List Line
   lost = by-day (lose t (aref-of e) (e .against)) (start-of e) (length-of e) ls
@@ -155,18 +168,20 @@ module _ (R : Rules) (t : ℕ) (es : List Entry) (ls : List Line) (W : Whole ls 
 
   pub whole-declined : Whole (by-day (lose t (aref-of e) (e .against)) (start-of e) (length-of e) ls)
       (Calls.close-if-last R t (by-day (lose t (aref-of e) (e .against)) (start-of e) (length-of e) ls) (e .against)
-        (change (aref-of e) (λ d. due-at (Places.over-at d) (in-state (cond (empty (by-day (lose t (aref-of e) (e .against)) (start-of e) (length-of e) ls) e) Gone Confirmed) d)) es))
+      (change (aref-of e) (λ d. due-at (Places.over-at d) (in-state (cond (empty (by-day (lose t (aref-of e) (e .against)) (start-of e) (length-of e) ls) e) Gone Confirmed) d)) es))
   whole-declined = whole-close _ _ (record {
-      supp = supp-change (Within es) (Apart es) (aref-of e) stays named es _
+    supp = supp-change (Within es) (Apart es) (aref-of e) stays named es _
         (λ k h w. (w .0, (lives _ (λ m. let v = subst (λ x. Holding x k) (E .1) w in not-empty _ e k m (v .1) (v .2) h), w .1, w .2)))
         (λ c k ne w. w)
         (λ c b k h w. others c b k w (λ q u. let z = lost-zero k in let y = subst (λ x. 0 < balance lost (aside x b) k) (sym q) h in let x = subst (λ x. 0 < balance lost (aside (aref-of e) x) k) (sym u) y in omega (arith, z, x)))
         supp-lost;
-      once = λ c. omega (arith, W .once c, count-map (λ z. cond (is (aref-of e) z) (stays z) z) (tame-change (aref-of e) stays named) c es) }) R t (e .against)
+    once = λ c. omega (arith, W .once c, count-map (λ z. cond (is (aref-of e) z) (stays z) z) (tame-change (aref-of e) stays named) c es);
+  }) R t (e .against)
     where
       lives : (q : Bool) → (q ≡ true → ⊥) → not (is-gone (cond q Gone Confirmed)) ≡ true
       lives true n = absurd (n refl)
       lives false n = refl
+
       named : (d : Entry) → is (aref-of e) d ≡ true → aref-of d ≡ aref-of e
       named d q = eqb-true (aref-of d) (aref-of e) (and-parts (living d) (eqb (aref-of d) (aref-of e)) q .1)
 
@@ -190,24 +205,26 @@ module _ (R : Rules) (t : ℕ) (es : List Entry) (ls : List Line) (W : Whole ls 
     supp-extended : Supp H⁺ A⁰ (by-day (extend t x (aref-of e) (e .against)) (start-of e + length-of e) (max (length-of e) (c .length) - length-of e) (by-day (keep t (aref-of e) (e .against)) (start-of e) (length-of e) ls))
     supp-extended = days-ind _ (Supp H⁺ A⁰) (start-of e + length-of e) (max (length-of e) (c .length) - length-of e)
         (λ k ms lo hi s. supp-post H⁺ A⁰ t Ceded (e .against) (aref-of e) k _ _ (omega arith) (λ _. inr (refl, lo, hi))
-           (supp-post H⁺ A⁰ t Extended (aref-of e) (e .against) k _ ms (omega arith) (λ _. inr (refl, lo, hi)) s)) _
+        (supp-post H⁺ A⁰ t Extended (aref-of e) (e .against) k _ ms (omega arith) (λ _. inr (refl, lo, hi)) s)) _
         (supp-into (Within es) H⁺ (Apart es) A⁰ _ (λ d k p w. inl w)
-          (λ d b k p w. (w, (λ q u. let z = kept-zero k in let y = subst (λ y. 0 < balance (by-day (keep t (aref-of e) (e .against)) (start-of e) (length-of e) ls) (aside y b) k) (sym q) p in let v = subst (λ y. 0 < balance (by-day (keep t (aref-of e) (e .against)) (start-of e) (length-of e) ls) (aside (aref-of e) y) k) (sym u) y in omega (arith, z, v)))) supp-kept)
+        (λ d b k p w. (w, (λ q u. let z = kept-zero k in let y = subst (λ y. 0 < balance (by-day (keep t (aref-of e) (e .against)) (start-of e) (length-of e) ls) (aside y b) k) (sym q) p in let v = subst (λ y. 0 < balance (by-day (keep t (aref-of e) (e .against)) (start-of e) (length-of e) ls) (aside (aref-of e) y) k) (sym u) y in omega (arith, z, v)))) supp-kept)
 
     abbrev taller : ℕ → Entry → Entry
     taller due′ d = record { standing = record { request = raised c (e .standing .request); state = Confirmed; queued = d .standing .queued }; due = due′; against = 0 }
 
     pub whole-matched : (due′ : ℕ) → Whole (by-day (extend t x (aref-of e) (e .against)) (start-of e + length-of e) (max (length-of e) (c .length) - length-of e) (by-day (keep t (aref-of e) (e .against)) (start-of e) (length-of e) ls))
         (Calls.close-if-last R t (by-day (extend t x (aref-of e) (e .against)) (start-of e + length-of e) (max (length-of e) (c .length) - length-of e) (by-day (keep t (aref-of e) (e .against)) (start-of e) (length-of e) ls)) (e .against)
-          (change (aref-of e) (λ d. record { standing = record { request = raised c (e .standing .request); state = Confirmed; queued = d .standing .queued }; due = due′; against = 0 }) es))
+        (change (aref-of e) (λ d. record { standing = record { request = raised c (e .standing .request); state = Confirmed; queued = d .standing .queued }; due = due′; against = 0 }) es))
     whole-matched due′ = whole-close _ _ (record {
-        supp = supp-change H⁺ A⁰ (aref-of e) (taller due′) (λ d q. refl) es _ (λ k h w. own k w) (λ d k ne w. rest d k ne w) (λ d b k h w. others d b k (w .0) (w .1)) supp-extended;
-        once = λ d. omega (arith, W .once d, count-map (λ z. cond (is (aref-of e) z) (taller due′ z) z) (tame-change (aref-of e) (taller due′) (λ d q. refl)) d es) }) R t (e .against)
+      supp = supp-change H⁺ A⁰ (aref-of e) (taller due′) (λ d q. refl) es _ (λ k h w. own k w) (λ d k ne w. rest d k ne w) (λ d b k h w. others d b k (w .0) (w .1)) supp-extended;
+      once = λ d. omega (arith, W .once d, count-map (λ z. cond (is (aref-of e) z) (taller due′ z) z) (tame-change (aref-of e) (taller due′) (λ d q. refl)) d es);
+    }) R t (e .against)
       where
         own : (k : ℕ) → Within es (aref-of e) k ⊎ ((aref-of e ≡ aref-of e) × (start-of e + length-of e ≤ k) × (k < start-of e + length-of e + (max (length-of e) (c .length) - length-of e))) →
             (living (find (aref-of e) es) ≡ true) × ((true ≡ true) × (start-of e ≤ k) × (k < start-of e + max (length-of e) (c .length)))
         own k (inl w) = let v = subst (λ y. Holding y k) (E .1) w in (w .0, (refl, v .1, omega arith))
         own k (inr w) = (subst (λ y. living y ≡ true) (sym (E .1)) (E .0), (refl, omega arith, omega arith))
+
         rest : (d k : ℕ) → (aref-of e ≡ d → ⊥) → Within es d k ⊎ ((aref-of e ≡ d) × (start-of e + length-of e ≤ k) × (k < start-of e + length-of e + (max (length-of e) (c .length) - length-of e))) → Within es d k
         rest d k ne (inl w) = w
         rest d k ne (inr w) = absurd (ne (w .0))

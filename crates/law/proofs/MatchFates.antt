@@ -130,6 +130,7 @@ module _ (R : Rules) (L : Lawful R) (r : Request) (last : ℕ) (s : ℕ → ℕ)
       where
         ls′ : List Line
         ls′ = by-day (lose t (aref-of e) (e .against)) (start-of e) (length-of e) (v .lines)
+
         go : (aref-of e ≡ a) ⊎ (aref-of e ≡ a → ⊥) → After t (aref-of e) (by-day (lose t (aref-of e) (e .against)) (start-of e) (length-of e) (v .lines)) (Calls.close-if-last R t (by-day (lose t (aref-of e) (e .against)) (start-of e) (length-of e) (v .lines)) (e .against) (change (aref-of e) (λ d. due-at (Places.over-at d) (in-state (cond (Preemption.empty (by-day (lose t (aref-of e) (e .against)) (start-of e) (length-of e) (v .lines)) e) Gone Confirmed) d)) (v .places)))
         go (inr ne) = inl (after-other t (aref-of e) _ _ (e .against) (named-same (aref-of e)) ne (not-b e E c), ne)
         go (inl q) =
@@ -145,6 +146,7 @@ module _ (R : Rules) (L : Lawful R) (r : Request) (last : ℕ) (s : ℕ → ℕ)
       where
         x : is-due t (find a (v .places)) ≡ false
         x = all-find (λ e. is-due t e ≡ false) a (v .places) refl (none-false (is-due t) (v .places) h)
+
         waiting : (st : State) → is-challenged st ≡ true → Calls.falls-due st ≡ true
         waiting Confirmed q = refl
         waiting Accepted q = refl
@@ -152,6 +154,7 @@ module _ (R : Rules) (L : Lawful R) (r : Request) (last : ℕ) (s : ℕ → ℕ)
         waiting Competing q = absurd (false≢true q)
         waiting Challenged q = refl
         waiting Gone q = absurd (false≢true q)
+
         go : (st : State) → find a (v .places) .standing .state ≡ st → t ≤ last
         go st q = split (and-cases (Calls.falls-due (find a (v .places) .standing .state)) (ltb (find a (v .places) .due) t) x)
           where
@@ -164,45 +167,60 @@ module _ (R : Rules) (L : Lawful R) (r : Request) (last : ℕ) (s : ℕ → ℕ)
       where
         y : ℕ
         y = Posting.largest (λ k. balance (v .lines) (aside (aref-of e) (e .against)) k) (start-of e) (length-of e)
+
         cr : Request
         cr = find (e .against) (v .places) .standing .request
+
         ls₁ : List Line
         ls₁ = by-day (keep t (aref-of e) (e .against)) (start-of e) (length-of e) (v .lines)
+
         ls₂ : List Line
         ls₂ = by-day (extend t y (aref-of e) (e .against)) (start-of e + length-of e) (max (length-of e) (cr .length) - length-of e) ls₁
+
         tall : Entry → Entry
         tall d = record { standing = record { request = raised cr (e .standing .request); state = Confirmed; queued = d .standing .queued }; due = 1440 * (start-of e + max (length-of e) (cr .length)); against = 0 }
+
         go : (aref-of e ≡ a) ⊎ (aref-of e ≡ a → ⊥) → After t (aref-of e) ls₂ (Calls.close-if-last R t ls₂ (e .against) (change (aref-of e) tall (v .places)))
         go (inr ne) = inl (after-other t (aref-of e) tall ls₂ (e .against) (λ d q. refl) ne (not-b e E c), ne)
         go (inl q) = inr (inl (subst (λ i. Wholly-kept s i (r .aref) ls₂) q (subst (λ i. Wholly-kept s (aref-of e) i ls₂) f W), not-due t nd, out))
           where
             e-is : find a (v .places) ≡ e
             e-is = ap (λ i. find i (v .places)) (sym q) ∙ E .1
+
             f : e .against ≡ r .aref
             f = ap (λ x. x .against) (sym e-is) ∙ F .against
+
             O′ : Wholly-aside s (aref-of e) (e .against) (v .lines)
             O′ = subst (λ i. Wholly-aside s i (e .against) (v .lines)) (sym q) (subst (λ i. Wholly-aside s a i (v .lines)) (sym f) (O .1))
+
             T : Never-below-zero ls₁ × ((k : ℕ) → (noted comes-back (aref-of e) (e .against) k ls₁ + balance ls₁ (aside (aref-of e) (e .against)) k ≡ noted comes-back (aref-of e) (e .against) k (v .lines) + balance (v .lines) (aside (aref-of e) (e .against)) k) × (noted goes-over (aref-of e) (e .against) k ls₁ ≡ noted goes-over (aref-of e) (e .against) k (v .lines)))
             T = kept-tally t (aref-of e) (e .against) (v .lines) (I .sound .fine .nbz) (start-of e) (length-of e)
+
             W : Wholly-kept s (aref-of e) (e .against) ls₂
             W k =
                 let Z = kept-zero R t (v .places) (v .lines) (I .whole) e E c k in
                 let X = extend-tally t (aref-of e) (e .against) ls₁ (T .0) y (aref-of e) (e .against) (start-of e + length-of e) (max (length-of e) (cr .length) - length-of e) k in
                 (omega (arith, X .0, Z), omega (arith, X .1, T .1 k .0, Z, O′ k .0, O′ k .1), omega (arith, X .2, T .1 k .1, O′ k .2))
+
             cr-is : cr ≡ r
             cr-is = ap (λ i. find i (v .places) .standing .request) f ∙ F .foe-is
+
             el : living (find (aref-of e) (v .places)) ≡ true
             el = ap living (E .1) ∙ E .0
+
             found₁ : find (aref-of e) (change (aref-of e) tall (v .places)) ≡ tall (find (aref-of e) (v .places))
             found₁ = find-same (aref-of e) tall (λ d u. refl) (v .places) el refl
+
             found₂ : find (aref-of e) (Calls.close-if-last R t ls₂ (e .against) (change (aref-of e) tall (v .places))) ≡ tall (find (aref-of e) (v .places))
             found₂ = pick (Places.match-open (change (aref-of e) tall (v .places)))
               where
                 pick : (d : Bool) → find (aref-of e) (cond d (change (aref-of e) tall (v .places)) (change (e .against) (Calls.close R t ls₂) (change (aref-of e) tall (v .places)))) ≡ tall (find (aref-of e) (v .places))
                 pick true = found₁
                 pick false = find-other (e .against) (Calls.close R t ls₂) (named-close R t (e .against) ls₂) (change (aref-of e) tall (v .places)) (aref-of e) (ap living found₁) (λ u. not-b e E c (sym u ∙ f)) ∙ found₁
+
             who-is : tall (find (aref-of e) (v .places)) .standing ≡ with-raised-terms r (in-state Confirmed e .standing)
             who-is = ap (λ d. record { request = raised cr (e .standing .request); state = Confirmed; queued = d .standing .queued }) (E .1) ∙ ap (λ x. with-raised-terms x (in-state Confirmed e .standing)) cr-is
+
             out : R .outranks r (find a (Calls.close-if-last R t ls₂ (e .against) (change (aref-of e) tall (v .places))) .standing) ≡ false
             out = ap (λ i. R .outranks r (find i (Calls.close-if-last R t ls₂ (e .against) (change (aref-of e) tall (v .places))) .standing)) (sym q)
                 ∙ (ap (λ d. R .outranks r (d .standing)) found₂ ∙ (ap (R .outranks r) who-is ∙ L .raised-stands r (in-state Confirmed e .standing) possible (subst (λ d. Possible (d .standing .request)) (E .1) (found-possible v terms (aref-of e) (ap living (E .1) ∙ E .0))) (subst (λ d. R .may-match r (in-state Confirmed d .standing) ≡ true) e-is (F .may))))
@@ -212,10 +230,11 @@ module _ (R : Rules) (L : Lawful R) (r : Request) (last : ℕ) (s : ℕ → ℕ)
         holds-stop (After t d) _ _ _ (λ above. let up : v .top < q .aref = leb-false (q .aref) (v .top) above in
         holds-stop (After t d) _ _ _ (λ _. holds-stop (After t d) _ _ _ (λ _. holds-stop (After t d) _ _ _ (λ _.
         holds-if (After t d) _ _ _ (λ _. holds (After t d) _ _ _ _ (seats (cond (q .preconfirmed) Confirmed Accepted) up)) (λ _.
-        holds-stop (After t d) _ _ _ (λ closed. absurd (false≢true (sym closed ∙ open-now (v .places) refl)))))))) 
+        holds-stop (After t d) _ _ _ (λ closed. absurd (false≢true (sym closed ∙ open-now (v .places) refl))))))))
       where
         low : (c : ℕ) → living (find c (v .places)) ≡ true → v .top < q .aref → q .aref ≡ c → ⊥
         low c l up e = let z = count-none (v .top) (q .aref) (v .places) up (I .sound .low) in let y = find-count c (v .places) l in let w = subst (λ i. count i (v .places) ≡ 0) e z in omega arith
+
         seats : (st : State) → v .top < q .aref → (Still (seat (Places.new-record R t q st) (v .places)) × (d ≡ a → ⊥)) ⊎ ((Wholly-kept s a (r .aref) (by-day (Preemption.grant t q) (q .start) (q .length) (v .lines)) × (t ≤ last) × (R .outranks r (find a (seat (Places.new-record R t q st) (v .places)) .standing) ≡ false)) ⊎ Wholly-lost s a (r .aref) (by-day (Preemption.grant t q) (q .start) (q .length) (v .lines)))
         seats st up = inl (still-same (v .places) _ (find-seat-other (Places.new-record R t q st) a (v .places) (low a (F .lives) up)) (find-seat-other (Places.new-record R t q st) (r .aref) (v .places) (low (r .aref) (F .foe-lives) up)) F, nd)
 
@@ -272,7 +291,6 @@ module _ (R : Rules) (L : Lawful R) (r : Request) (last : ℕ) (s : ℕ → ℕ)
                 inl (x .0, (λ k. (A .1 k .0 ∙ O .1 k .0, A .1 k .1 ∙ O .1 k .1, A .1 k .2 ∙ O .1 k .2)))
             go (inr x) = inr x
 
-
 module _ (R : Rules) (L : Lawful R) where
   -- what is closed stays closed
   closed-run : (p : ℕ → ℕ) (a b : ℕ) (K N : ℕ → ℕ) (cs : List Call) (v : View) → Right p v → b ≤ v .top →
@@ -294,15 +312,33 @@ module _ (R : Rules) (L : Lawful R) where
     where
       top : r .aref ≤ step R c v .1 .top
       top = let g = top-grows R v (I .whole) (I .sound .low) c in let h = known R L r last s a possible p v I T O in omega arith
+
       further : Wholly-aside s a (r .aref) (run R cs (step R c v .1) .lines) ⊎ (Came-back R r last s a (step R c v .1) cs ⊎ Went-over R r s a (step R c v .1) cs) → Wholly-aside s a (r .aref) (run R cs (step R c v .1) .lines) ⊎ (Came-back R r last s a v (c ∷ cs) ⊎ Went-over R r s a v (c ∷ cs))
       further (inl h) = inl h
       further (inr (inl h)) = inr (inl (record { early = c ∷ h .early; call = h .call; late = h .late; split = ap (λ x. c ∷ x) (h .split); until = h .until; returned = h .returned; in-time = h .in-time; stands = h .stands; ever-after = h .ever-after }))
       further (inr (inr h)) = inr (inr (record { early = c ∷ h .early; call = h .call; late = h .late; split = ap (λ x. c ∷ x) (h .split); until = h .until; went = h .went; ever-after = h .ever-after }))
+
       go : (Open R L r last s a possible (step R c v .1 .lines) (step R c v .1 .places) → Wholly-aside s a (r .aref) (run R cs (step R c v .1) .lines) ⊎ (Came-back R r last s a (step R c v .1) cs ⊎ Went-over R r s a (step R c v .1) cs)) →
           Open R L r last s a possible (step R c v .1 .lines) (step R c v .1 .places) ⊎ ((Wholly-kept s a (r .aref) (step R c v .1 .lines) × (minute-of c ≤ last) × (R .outranks r (find a (step R c v .1 .places) .standing) ≡ false)) ⊎ Wholly-lost s a (r .aref) (step R c v .1 .lines)) →
           Wholly-aside s a (r .aref) (run R cs (step R c v .1) .lines) ⊎ (Came-back R r last s a v (c ∷ cs) ⊎ Went-over R r s a v (c ∷ cs))
       go ih (inl h) = further (ih h)
-      go ih (inr (inl h)) = inr (inl (record { early = []; call = c; late = cs; split = refl; until = O .1; returned = h .0; in-time = h .1; stands = h .2;
-          ever-after = closed-run p a (r .aref) s (λ k. 0) cs (step R c v .1) (right-step R p v I c) top (h .0) }))
-      go ih (inr (inr h)) = inr (inr (record { early = []; call = c; late = cs; split = refl; until = O .1; went = h;
-          ever-after = closed-run p a (r .aref) (λ k. 0) s cs (step R c v .1) (right-step R p v I c) top h }))
+      go ih (inr (inl h)) = inr (inl (record {
+        early = [];
+        call = c;
+        late = cs;
+        split = refl;
+        until = O .1;
+        returned = h .0;
+        in-time = h .1;
+        stands = h .2;
+        ever-after = closed-run p a (r .aref) s (λ k. 0) cs (step R c v .1) (right-step R p v I c) top (h .0);
+      }))
+      go ih (inr (inr h)) = inr (inr (record {
+        early = [];
+        call = c;
+        late = cs;
+        split = refl;
+        until = O .1;
+        went = h;
+        ever-after = closed-run p a (r .aref) (λ k. 0) s cs (step R c v .1) (right-step R p v I c) top h;
+      }))

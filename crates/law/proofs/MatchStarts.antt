@@ -58,16 +58,18 @@ module _ (R : Rules) (L : Lawful R) (p : ℕ → ℕ) (v : View) (I : Right p v)
 
     preempted : Places.match-open (v .places) ≡ false → 0 < balance (Preemption.preempt R t r v) (aside a (r .aref)) day →
         Facing-off R r (R .answer-by r (find a (v .places) .standing) t (v .days)) (find a (seat (new-record R t r (cond (Places.match-open (map (g R t r v (Preemption.preempt R t r v)) (v .places))) Competing Confirmed)) (map (g R t r v (Preemption.preempt R t r v)) (v .places))))
-          (find (r .aref) (seat (new-record R t r (cond (Places.match-open (map (g R t r v (Preemption.preempt R t r v)) (v .places))) Competing Confirmed)) (map (g R t r v (Preemption.preempt R t r v)) (v .places))))
+        (find (r .aref) (seat (new-record R t r (cond (Places.match-open (map (g R t r v (Preemption.preempt R t r v)) (v .places))) Competing Confirmed)) (map (g R t r v (Preemption.preempt R t r v)) (v .places))))
     preempted closed h = go (supp-preempt R v (I .whole) (I .sound .low) t r up .asides a (r .aref) day h)
       where
         ms : List Line
         ms = Preemption.preempt R t r v
+
         fs : List Entry
         fs = map (g R t r v (Preemption.preempt R t r v)) (v .places)
+
         go : Side⁺ (pr R t r v (Preemption.preempt R t r v)) (v .places) r a (r .aref) day →
             Facing-off R r (R .answer-by r (find a (v .places) .standing) t (v .days)) (find a (seat (new-record R t r (cond (Places.match-open (map (g R t r v (Preemption.preempt R t r v)) (v .places))) Competing Confirmed)) (map (g R t r v (Preemption.preempt R t r v)) (v .places))))
-              (find (r .aref) (seat (new-record R t r (cond (Places.match-open (map (g R t r v (Preemption.preempt R t r v)) (v .places))) Competing Confirmed)) (map (g R t r v (Preemption.preempt R t r v)) (v .places))))
+            (find (r .aref) (seat (new-record R t r (cond (Places.match-open (map (g R t r v (Preemption.preempt R t r v)) (v .places))) Competing Confirmed)) (map (g R t r v (Preemption.preempt R t r v)) (v .places))))
         go (inl w) = absurd (false≢true (sym (all-find (λ x. is-challenged (x .standing .state) ≡ false) a (v .places) refl (none-false _ (v .places) closed)) ∙ w .0 .1))
         go (inr w) =
             let T = tame-after R t r v (Preemption.preempt R t r v) in
@@ -83,11 +85,17 @@ module _ (R : Rules) (L : Lawful R) (p : ℕ → ℕ) (v : View) (I : Right p v)
             let B = find-seat x (map (g R t r v (Preemption.preempt R t r v)) (v .places)) xl (some-map (g R t r v (Preemption.preempt R t r v)) T (v .places) place) none in
             let sc = L .right-confirmed r (find a (v .places) .standing) possible (found-possible v terms a (w .1 .0)) (d .1) in
             let fo : Facing-off R r (R .answer-by r (find a (v .places) .standing) t (v .days)) (record { standing = record { request = find a (v .places) .standing .request; state = Challenged; queued = find a (v .places) .standing .queued }; due = R .answer-by r (find a (v .places) .standing) t (v .days); against = r .aref }) x = record {
-                lives = refl; chal = refl; against = refl; till = refl;
-                may = ap (λ st. R .may-match r (record { request = find a (v .places) .standing .request; state = st; queued = find a (v .places) .standing .queued })) (sym sc) ∙ d .1;
-                foe-lives = xl; foe-competes = ap (λ c. is-competing (cond c Competing Confirmed)) o; foe-is = refl } in
+              lives = refl;
+              chal = refl;
+              against = refl;
+              till = refl;
+              may = ap (λ st. R .may-match r (record { request = find a (v .places) .standing .request; state = st; queued = find a (v .places) .standing .queued })) (sym sc) ∙ d .1;
+              foe-lives = xl;
+              foe-competes = ap (λ c. is-competing (cond c Competing Confirmed)) o;
+              foe-is = refl;
+            } in
             subst (λ e. Facing-off R r (R .answer-by r (find a (v .places) .standing) t (v .days)) e (find (r .aref) (seat x (map (g R t r v (Preemption.preempt R t r v)) (v .places))))) (sym A)
-              (subst (λ c. Facing-off R r (R .answer-by r (find a (v .places) .standing) t (v .days)) (record { standing = record { request = find a (v .places) .standing .request; state = Challenged; queued = find a (v .places) .standing .queued }; due = R .answer-by r (find a (v .places) .standing) t (v .days); against = r .aref }) c) (sym B) fo)
+            (subst (λ c. Facing-off R r (R .answer-by r (find a (v .places) .standing) t (v .days)) (record { standing = record { request = find a (v .places) .standing .request; state = Challenged; queued = find a (v .places) .standing .queued }; due = R .answer-by r (find a (v .places) .standing) t (v .days); against = r .aref }) c) (sym B) fo)
 
   begins-submitted : Holds Begins (Calls.submitted R t r v)
   begins-submitted =
@@ -97,11 +105,12 @@ module _ (R : Rules) (L : Lawful R) (p : ℕ → ℕ) (v : View) (I : Right p v)
       holds-if Begins _ _ _ (λ _. holds Begins _ _ _ _ (inr (up, (λ h. absurd (granted up place (cond (r .preconfirmed) Confirmed Accepted) (alive (r .preconfirmed)) (calm (r .preconfirmed)) h))))) (λ _.
       holds-stop Begins _ _ _ (λ closed.
       holds-if Begins _ _ _ (λ _. holds Begins _ _ _ _ (inr (up, (λ h. preempted up place closed h)))) (λ _.
-      holds-stop Begins _ _ _ (λ _. holds Begins _ _ _ Offered (inr (up, (λ h. absurd (granted up place Offered refl refl h)))))))))))) 
+      holds-stop Begins _ _ _ (λ _. holds Begins _ _ _ Offered (inr (up, (λ h. absurd (granted up place Offered refl refl h))))))))))))
     where
       alive : (c : Bool) → not (is-gone (cond c Confirmed Accepted)) ≡ true
       alive true = refl
       alive false = refl
+
       calm : (c : Bool) → is-competing (cond c Confirmed Accepted) ≡ false
       calm true = refl
       calm false = refl
@@ -116,10 +125,13 @@ module _ (R : Rules) (L : Lawful R) (p : ℕ → ℕ) (v : View) (I : Right p v)
     where
       go : Begins (step R (submit t r) v .1 .lines) (step R (submit t r) v .1 .places) → Open R L r (R .answer-by r (find a (v .places) .standing) t (v .days)) (λ k. balance (step R (submit t r) v .1 .lines) (aside a (r .aref)) k) a possible (step R (submit t r) v .1 .lines) (step R (submit t r) v .1 .places)
       go (inl e) = let z = ap (λ x. balance x (aside a (r .aref)) day) e in let b : ⊥ = omega arith in absurd b
-      go (inr w) = (w .1 (omega arith), (λ k.
-          let m = mute true (v .top) (suc a) a (r .aref) (v .lines) (λ (q : suc a ≡ a). omega arith) (pays-step R v (suc a) (submit t r)) k in
-          let up = w .0 in
-          (refl, m .0 ∙ noted-none comes-back (suc (v .top)) a (r .aref) k (v .lines) (omega arith) (I .sound .fine .names), m .1 ∙ noted-none goes-over (suc (v .top)) a (r .aref) k (v .lines) (omega arith) (I .sound .fine .names))))
+      go (inr w) = (
+        w .1 (omega arith),
+        (λ k.
+            let m = mute true (v .top) (suc a) a (r .aref) (v .lines) (λ (q : suc a ≡ a). omega arith) (pays-step R v (suc a) (submit t r)) k in
+            let up = w .0 in
+            (refl, m .0 ∙ noted-none comes-back (suc (v .top)) a (r .aref) k (v .lines) (omega arith) (I .sound .fine .names), m .1 ∙ noted-none goes-over (suc (v .top)) a (r .aref) k (v .lines) (omega arith) (I .sound .fine .names))),
+      )
 
 pub one-fate : One-fate
 one-fate R L days places room cs t r after a day checked sold checked-after h =

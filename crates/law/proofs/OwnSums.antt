@@ -72,7 +72,7 @@ pub record Accounted (v : View) : Type 0 where
   pub posted : (day : ℕ) → brought (v .lines) day ≡ posted-on (v .days) day
   pub holders : (a day : ℕ) → 0 < balance (v .lines) (held a) day → In-term (find a (v .places)) day
   pub challenged : (a b day : ℕ) → 0 < balance (v .lines) (aside a b) day →
-    In-term (find a (v .places)) day × (is-challenged (find a (v .places) .standing .state) ≡ true) × (find a (v .places) .against ≡ b)
+      In-term (find a (v .places)) day × (is-challenged (find a (v .places) .standing .state) ≡ true) × (find a (v .places) .against ≡ b)
   pub once : (a : ℕ) → count a (v .places) ≤ 1
   pub accepted : All (Accepted-by (v .top)) (v .places)
 

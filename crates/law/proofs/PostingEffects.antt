@@ -46,6 +46,7 @@ module _ (ls : List Line) (fine : Never-below-zero ls) (t : ℕ) (κ : LineKind)
       zero-cond : (c : Bool) → m ≡ 0 → cond c m 0 ≡ 0
       zero-cond true e = e
       zero-cond false e = refl
+
       go : (eqb m 0 ≡ true) ⊎ (eqb m 0 ≡ false) →
           balance (cond (eqb m 0) ls (ls ++ record { minute = t; kind = κ; a = a; b = b; day = k; mw = m } ∷ [])) x j + cond (eqb k j && same x (from κ a b)) m 0 ≡ balance ls x j + cond (eqb k j && same x (to κ a b)) m 0
       go (inl e) = let z = eqb-true m 0 e in rw e (omega (arith, zero-cond (eqb k j && same x (from κ a b)) z, zero-cond (eqb k j && same x (to κ a b)) z))
@@ -79,6 +80,7 @@ taken-post c j t κ a b k m ls = go (cases-bool (eqb m 0))
     zero-cond : (c : Bool) → m ≡ 0 → cond c m 0 ≡ 0
     zero-cond true e = e
     zero-cond false e = refl
+
     go : (eqb m 0 ≡ true) ⊎ (eqb m 0 ≡ false) → taken c j (cond (eqb m 0) ls (ls ++ record { minute = t; kind = κ; a = a; b = b; day = k; mw = m } ∷ [])) ≡ taken c j ls + cond (brings-challenger κ && (eqb b c && eqb k j)) m 0
     go (inl e) = rw e (omega (arith, zero-cond (brings-challenger κ && (eqb b c && eqb k j)) (eqb-true m 0 e)))
     go (inr e) = rw e (taken-push c j ls (record { minute = t; kind = κ; a = a; b = b; day = k; mw = m }))

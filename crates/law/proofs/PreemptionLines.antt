@@ -89,9 +89,10 @@ in-term-later r d ms ns ne p h k q = h k (omega (arith, p .less (aref-of d) k ne
 module _ (R : Rules) (t : ℕ) (r : Request) (base : List Line) (whole : List Entry) where
   -- granting
   pub writes-grant : (s d : ℕ) (ls : List Line) → Never-below-zero ls → Writes (Fact r base whole) ls (by-day (grant t r) s d ls)
-  writes-grant s d ls f = writes-days (Fact r base whole) Never-below-zero (grant t r) (λ k ms p.
-      (later-granted r t 0 k _ ms p (omega arith) .nbz,
-       writes-post (Fact r base whole) t Granted 0 (r .aref) k _ ms (λ q. (subst (λ x. Later r ms x) (post-is t Granted 0 (r .aref) k _ ms q) (later-granted r t 0 k _ ms p (omega arith)), tt)))) s d ls f
+  writes-grant s d ls f = writes-days (Fact r base whole) Never-below-zero (grant t r) (λ k ms p. (
+    later-granted r t 0 k _ ms p (omega arith) .nbz,
+    writes-post (Fact r base whole) t Granted 0 (r .aref) k _ ms (λ q. (subst (λ x. Later r ms x) (post-is t Granted 0 (r .aref) k _ ms q) (later-granted r t 0 k _ ms p (omega arith)), tt)),
+  )) s d ls f
 
   pub later-grant : (s d : ℕ) (ls : List Line) → Never-below-zero ls → Later r ls (by-day (grant t r) s d ls)
   later-grant s d ls f = days-ind (grant t r) (Later r ls) s d (λ k ms lo hi p. later-trans r ls ms _ p (later-granted r t 0 k _ ms (p .nbz) (omega arith))) ls (later-refl r ls f)
@@ -116,11 +117,13 @@ module _ (R : Rules) (t : ℕ) (r : Request) (base : List Line) (whole : List En
 
   writes-give : (pre rest : List Entry) (d : Entry) → whole ≡ pre ++ d ∷ rest → All (Other r) pre → Other r d → (ls : List Line) → Never-below-zero ls → All (λ e. Given-up r e ls) pre → Writes (Fact r base whole) ls (give R t r d ls)
   writes-give pre rest d e o n ls f g = writes-days (Fact r base whole) (Later r ls) _ (λ k ms p.
-      let one : Later r ms (post t (cond (R .may-match r (d .standing)) SetAside Recalled) (aref-of d) (r .aref) k (min (holding ms (aref-of d) k) (short r k ms)) ms) = later-given r (R .may-match r (d .standing)) t (aref-of d) k _ ms (p .nbz) (omega arith) in
-      (later-trans r ls ms _ p one,
-       writes-post (Fact r base whole) t _ (aref-of d) (r .aref) k _ ms (λ q.
-         (subst (λ x. Later r ms x) (post-is t _ (aref-of d) (r .aref) k _ ms q) one,
-          took-line (R .may-match r (d .standing)) d pre rest k _ ms e (omega arith) (ups-later pre ls ms o p g))))) (start-of d) (length-of d) ls (later-refl r ls f)
+      let one : Later r ms (post t (cond (R .may-match r (d .standing)) SetAside Recalled) (aref-of d) (r .aref) k (min (holding ms (aref-of d) k) (short r k ms)) ms) = later-given r (R .may-match r (d .standing)) t (aref-of d) k _ ms (p .nbz) (omega arith) in (
+        later-trans r ls ms _ p one,
+        writes-post (Fact r base whole) t _ (aref-of d) (r .aref) k _ ms (λ q. (
+          subst (λ x. Later r ms x) (post-is t _ (aref-of d) (r .aref) k _ ms q) one,
+          took-line (R .may-match r (d .standing)) d pre rest k _ ms e (omega arith) (ups-later pre ls ms o p g),
+        )),
+      )) (start-of d) (length-of d) ls (later-refl r ls f)
 
   pub writes-give-all : (pre ds : List Entry) → whole ≡ pre ++ ds → All (Other r) pre → All (Other r) ds → (ls : List Line) → Never-below-zero ls → All (λ e. In-term r e ls) ds →
       All (λ e. Given-up r e ls) pre → All (λ e. is-pending (e .standing .state) ≡ true → Given-up r e ls) ds → Writes (Fact r base whole) ls (give-all R t r ds ls) × Later r ls (give-all R t r ds ls)
@@ -128,8 +131,8 @@ module _ (R : Rules) (t : ℕ) (r : Request) (base : List Line) (whole : List En
   writes-give-all pre [] e o n ls f i g h = (at-first refl, later-refl r ls f)
   writes-give-all pre (d ∷ ds) e o n ls f i g h =
       go (λ (ms : List Line) (p : Never-below-zero ms) (u : All (λ x. In-term r x ms) ds) (v : All (λ x. Given-up r x ms) (pre ++ d ∷ [])) (w : All (λ x. is-pending (x .standing .state) ≡ true → Given-up r x ms) ds).
-            writes-give-all (pre ++ d ∷ []) ds (e ∙ sym (append-assoc pre (d ∷ []) ds)) (all-push (Other r) pre d o (n .0)) (n .1) ms p u v w)
-         (is-pending (d .standing .state)) refl
+      writes-give-all (pre ++ d ∷ []) ds (e ∙ sym (append-assoc pre (d ∷ []) ds)) (all-push (Other r) pre d o (n .0)) (n .1) ms p u v w)
+      (is-pending (d .standing .state)) refl
     where
       go : ((ms : List Line) → Never-below-zero ms → All (λ x. In-term r x ms) ds → All (λ x. Given-up r x ms) (pre ++ d ∷ []) → All (λ x. is-pending (x .standing .state) ≡ true → Given-up r x ms) ds → Writes (Fact r base whole) ms (give-all R t r ds ms) × Later r ms (give-all R t r ds ms)) →
           (c : Bool) → is-pending (d .standing .state) ≡ c → Writes (Fact r base whole) ls (give-all R t r ds (cond c ls (give R t r d ls))) × Later r ls (give-all R t r ds (cond c ls (give R t r d ls)))
@@ -146,6 +149,7 @@ module _ (R : Rules) (t : ℕ) (r : Request) (base : List Line) (whole : List En
     where
       Since : List Line → Type 0
       Since ms = Later r ls ms × ((ws : List Line) × (ms ≡ ls ++ ws) × All (λ x. (x .kind ≡ Superseded) × (x .a ≡ aref-of d)) ws)
+
       one : (k : ℕ) × (start-of d ≤ k) × (k < start-of d + length-of d) × ((eqb (holding ls (aref-of d) k) 0 || eqb (short r k ls) 0) ≡ false) → (k : ℕ) (ms : List Line) → Later r ls ms × ((ws : List Line) × (ms ≡ ls ++ ws) × All (λ x. (x .kind ≡ Superseded) × (x .a ≡ aref-of d)) ws) →
           (Later r ls (post t Superseded (aref-of d) (r .aref) k (holding ms (aref-of d) k) ms) × ((ws : List Line) × (post t Superseded (aref-of d) (r .aref) k (holding ms (aref-of d) k) ms ≡ ls ++ ws) × All (λ x. (x .kind ≡ Superseded) × (x .a ≡ aref-of d)) ws))
           × Writes (Fact r base whole) ms (post t Superseded (aref-of d) (r .aref) k (holding ms (aref-of d) k) ms)
@@ -153,12 +157,31 @@ module _ (R : Rules) (t : ℕ) (r : Request) (base : List Line) (whole : List En
           let L = later-superseded r t (aref-of d) k (holding ms (aref-of d) k) ms (p .0 .nbz) (omega arith) in
           let z = or-parts (eqb (holding ls (aref-of d) (w .0)) 0) (eqb (short r (w .0) ls) 0) (w .3) in
           let n1 = eqb-false (holding ls (aref-of d) (w .0)) 0 (z .0) in
-          let n2 = eqb-false (short r (w .0) ls) 0 (z .1) in
-          ((later-trans r ls ms _ (p .0) L, grown ms (p .1) k (cases-eq (holding ms (aref-of d) k) 0)),
-           writes-post (Fact r base whole) t Superseded (aref-of d) (r .aref) k (holding ms (aref-of d) k) ms (λ q.
-             (subst (λ x. Later r ms x) (post-is t Superseded (aref-of d) (r .aref) k (holding ms (aref-of d) k) ms q) L,
-              record { pre = pre; rest = rest; giver = d; split = e; from-giver = refl; for-r = refl; was-pending = pe; before = ls; since = p .1 .0; now = p .1 .1; start = from-base; own = p .1 .2;
-                       day′ = w .0; held-some = omega arith; was-short = omega arith; left = p .0; done = g })))
+          let n2 = eqb-false (short r (w .0) ls) 0 (z .1) in (
+            (later-trans r ls ms _ (p .0) L, grown ms (p .1) k (cases-eq (holding ms (aref-of d) k) 0)),
+            writes-post (Fact r base whole) t Superseded (aref-of d) (r .aref) k (holding ms (aref-of d) k) ms (λ q. (
+              subst (λ x. Later r ms x) (post-is t Superseded (aref-of d) (r .aref) k (holding ms (aref-of d) k) ms q) L,
+              record {
+                pre = pre;
+                rest = rest;
+                giver = d;
+                split = e;
+                from-giver = refl;
+                for-r = refl;
+                was-pending = pe;
+                before = ls;
+                since = p .1 .0;
+                now = p .1 .1;
+                start = from-base;
+                own = p .1 .2;
+                day′ = w .0;
+                held-some = omega arith;
+                was-short = omega arith;
+                left = p .0;
+                done = g;
+              },
+            )),
+          )
         where
           grown : (ms : List Line) → (ws : List Line) × (ms ≡ ls ++ ws) × All (λ x. (x .kind ≡ Superseded) × (x .a ≡ aref-of d)) ws → (k : ℕ) → (holding ms (aref-of d) k ≡ 0) ⊎ (holding ms (aref-of d) k ≡ 0 → ⊥) →
               (ws : List Line) × (post t Superseded (aref-of d) (r .aref) k (holding ms (aref-of d) k) ms ≡ ls ++ ws) × All (λ x. (x .kind ≡ Superseded) × (x .a ≡ aref-of d)) ws
@@ -166,6 +189,7 @@ module _ (R : Rules) (t : ℕ) (r : Request) (base : List Line) (whole : List En
           grown ms u k (inr ne) =
               let l : Line = record { minute = t; kind = Superseded; a = aref-of d; b = r .aref; day = k; mw = holding ms (aref-of d) k } in
               (u .0 ++ l ∷ [], post-is t Superseded (aref-of d) (r .aref) k (holding ms (aref-of d) k) ms (omega arith) ∙ (ap (λ x. x ++ l ∷ []) (u .1) ∙ append-assoc ls (u .0) (l ∷ [])), all-push (λ x. (x .kind ≡ Superseded) × (x .a ≡ aref-of d)) (u .0) l (u .2) (refl, refl))
+
       go : (c : Bool) → meets-shortage r d ls ≡ c → Writes (Fact r base whole) ls (cond c (by-day (λ k ms. post t Superseded (aref-of d) (r .aref) k (holding ms (aref-of d) k) ms) (start-of d) (length-of d) ls) ls)
       go true q = writes-days (Fact r base whole) (λ ms. Later r ls ms × ((ws : List Line) × (ms ≡ ls ++ ws) × All (λ x. (x .kind ≡ Superseded) × (x .a ≡ aref-of d)) ws)) _
           (one (each-false _ (start-of d) (length-of d) (not-true _ q))) (start-of d) (length-of d) ls (later-refl r ls f, ([], sym (append-nil ls), tt))
@@ -178,11 +202,11 @@ module _ (R : Rules) (t : ℕ) (r : Request) (base : List Line) (whole : List En
   writes-supersede-all pre [] e o n ls B f i g = (at-first refl, later-refl r ls f, tt)
   writes-supersede-all pre (d ∷ ds) e o n ls B f i g =
       go (λ (ms : List Line) (B′ : (us : List Line) × (ms ≡ base ++ us)) (p : Never-below-zero ms) (u : All (λ x. In-term r x ms) ds) (v : All (λ x. is-pending (x .standing .state) ≡ true → Given-up r x ms) (pre ++ d ∷ [])).
-            writes-supersede-all (pre ++ d ∷ []) ds (e ∙ sym (append-assoc pre (d ∷ []) ds)) (all-push (Other r) pre d o (n .0)) (n .1) ms B′ p u v)
-         (is-pending (d .standing .state)) refl
+      writes-supersede-all (pre ++ d ∷ []) ds (e ∙ sym (append-assoc pre (d ∷ []) ds)) (all-push (Other r) pre d o (n .0)) (n .1) ms B′ p u v)
+      (is-pending (d .standing .state)) refl
     where
       go : ((ms : List Line) → (us : List Line) × (ms ≡ base ++ us) → Never-below-zero ms → All (λ x. In-term r x ms) ds → All (λ x. is-pending (x .standing .state) ≡ true → Given-up r x ms) (pre ++ d ∷ []) →
-              Writes (Fact r base whole) ms (supersede-all t r ds ms) × Later r ms (supersede-all t r ds ms) × All (λ x. is-pending (x .standing .state) ≡ true → Given-up r x (supersede-all t r ds ms)) ds) →
+          Writes (Fact r base whole) ms (supersede-all t r ds ms) × Later r ms (supersede-all t r ds ms) × All (λ x. is-pending (x .standing .state) ≡ true → Given-up r x (supersede-all t r ds ms)) ds) →
           (c : Bool) → is-pending (d .standing .state) ≡ c →
           Writes (Fact r base whole) ls (supersede-all t r ds (cond c (supersede t r d ls) ls)) × Later r ls (supersede-all t r ds (cond c (supersede t r d ls) ls)) ×
           ((is-pending (d .standing .state) ≡ true → Given-up r d (supersede-all t r ds (cond c (supersede t r d ls) ls))) × All (λ x. is-pending (x .standing .state) ≡ true → Given-up r x (supersede-all t r ds (cond c (supersede t r d ls) ls))) ds)

@@ -34,6 +34,7 @@ noted-post p a b j t κ x y k m ls = go (cases-bool (eqb m 0))
     none : (c : Bool) → m ≡ 0 → cond c m 0 ≡ 0
     none true e = e
     none false e = refl
+
     go : (eqb m 0 ≡ true) ⊎ (eqb m 0 ≡ false) → noted p a b j (cond (eqb m 0) ls (ls ++ record { minute = t; kind = κ; a = x; b = y; day = k; mw = m } ∷ [])) ≡ noted p a b j ls + cond (p κ && (eqb k j && (eqb b y && eqb a x))) m 0
     go (inl e) = rw e (omega (arith, none (p κ && (eqb k j && (eqb b y && eqb a x))) (eqb-true m 0 e)))
     go (inr e) = rw e (noted-push p a b j ls (record { minute = t; kind = κ; a = x; b = y; day = k; mw = m }))
@@ -86,16 +87,17 @@ module _ (sub : Bool) (n x a b : ℕ) (known : b ≤ n) (base : List Line) where
 
   alike-push : (ms : List Line) (l : Line) → Alike ms → Sane sub n x ms l → same (aside a b) (source l) ≡ false → Alike (ms ++ l ∷ [])
   unfolding balance
-  alike-push ms l A s ns =
-      (nbz-push ms l (A .0) (λ k y q. omega (arith, never-overdrawn ms (A .0) k y q, takes-le y k l (balance ms) (s .1))),
-       (λ k.
-         let nt = not-to sub n x (l .kind) a b (l .a) (l .b) known (s .2) in
-         let e = balance-push ms (A .0) (l .minute) (l .kind) (l .a) (l .b) (l .day) (l .mw) (s .1) (aside a b) k (omega arith) in
-         let c₁ : cond (eqb (l .day) k && same (aside a b) (source l)) (l .mw) 0 ≡ 0 = rw ns (cond-never (eqb (l .day) k) (l .mw)) in
-         let c₂ : cond (eqb (l .day) k && same (aside a b) (target l)) (l .mw) 0 ≡ 0 = rw nt (cond-never (eqb (l .day) k) (l .mw)) in
-         let q = silent (l .kind) a b (l .a) (l .b) (l .mw) (eqb (l .day) k) ns in
-         let i = A .1 k in
-         (omega (arith, e, c₁, c₂, i .0), omega (arith, noted-push comes-back a b k ms l, q .0, i .1), omega (arith, noted-push goes-over a b k ms l, q .1, i .2))))
+  alike-push ms l A s ns = (
+    nbz-push ms l (A .0) (λ k y q. omega (arith, never-overdrawn ms (A .0) k y q, takes-le y k l (balance ms) (s .1))),
+    (λ k.
+        let nt = not-to sub n x (l .kind) a b (l .a) (l .b) known (s .2) in
+        let e = balance-push ms (A .0) (l .minute) (l .kind) (l .a) (l .b) (l .day) (l .mw) (s .1) (aside a b) k (omega arith) in
+        let c₁ : cond (eqb (l .day) k && same (aside a b) (source l)) (l .mw) 0 ≡ 0 = rw ns (cond-never (eqb (l .day) k) (l .mw)) in
+        let c₂ : cond (eqb (l .day) k && same (aside a b) (target l)) (l .mw) 0 ≡ 0 = rw nt (cond-never (eqb (l .day) k) (l .mw)) in
+        let q = silent (l .kind) a b (l .a) (l .b) (l .mw) (eqb (l .day) k) ns in
+        let i = A .1 k in
+        (omega (arith, e, c₁, c₂, i .0), omega (arith, noted-push comes-back a b k ms l, q .0, i .1), omega (arith, noted-push goes-over a b k ms l, q .1, i .2))),
+  )
 
   pub quiet : Never-below-zero base → (x ≡ a → ⊥) ⊎ ((k : ℕ) → balance base (aside a b) k ≡ 0) → {ms : List Line} → Writes (Sane sub n x) base ms → Alike ms
   quiet f z {ms} (at-first e) = subst Alike (sym e) (f, (λ k. (refl, refl, refl)))
@@ -137,17 +139,25 @@ noted-none p n a b k (l ∷ ls) h A =
 module _ (t a b : ℕ) (ls : List Line) (f : Never-below-zero ls) where
   pub lost-tally : (s d : ℕ) → Never-below-zero (by-day (lose t a b) s d ls) × ((k : ℕ) → (noted goes-over a b k (by-day (lose t a b) s d ls) + balance (by-day (lose t a b) s d ls) (aside a b) k ≡ noted goes-over a b k ls + balance ls (aside a b) k) × (noted comes-back a b k (by-day (lose t a b) s d ls) ≡ noted comes-back a b k ls))
   lost-tally s d = days-ind (lose t a b) (λ ms. Never-below-zero ms × ((k : ℕ) → (noted goes-over a b k ms + balance ms (aside a b) k ≡ noted goes-over a b k ls + balance ls (aside a b) k) × (noted comes-back a b k ms ≡ noted comes-back a b k ls))) s d
-      (λ j ms lo hi A. (nbz-post ms (A .0) t Lost a b j (balance ms (aside a b) j) (omega arith), (λ k.
-        let z : cond (eqb j k && false) (balance ms (aside a b) j) 0 ≡ 0 = cond-never (eqb j k) (balance ms (aside a b) j) in
-        (omega (arith, balance-post ms (A .0) t Lost a b j (balance ms (aside a b) j) (omega arith) (aside a b) k (omega arith), noted-post goes-over a b k t Lost a b j (balance ms (aside a b) j) ms, A .1 k .0),
-         omega (arith, noted-post comes-back a b k t Lost a b j (balance ms (aside a b) j) ms, A .1 k .1))))) ls (f, (λ k. (refl, refl)))
+      (λ j ms lo hi A. (
+        nbz-post ms (A .0) t Lost a b j (balance ms (aside a b) j) (omega arith),
+        (λ k.
+            let z : cond (eqb j k && false) (balance ms (aside a b) j) 0 ≡ 0 = cond-never (eqb j k) (balance ms (aside a b) j) in (
+              omega (arith, balance-post ms (A .0) t Lost a b j (balance ms (aside a b) j) (omega arith) (aside a b) k (omega arith), noted-post goes-over a b k t Lost a b j (balance ms (aside a b) j) ms, A .1 k .0),
+              omega (arith, noted-post comes-back a b k t Lost a b j (balance ms (aside a b) j) ms, A .1 k .1),
+            )),
+      )) ls (f, (λ k. (refl, refl)))
 
   pub kept-tally : (s d : ℕ) → Never-below-zero (by-day (keep t a b) s d ls) × ((k : ℕ) → (noted comes-back a b k (by-day (keep t a b) s d ls) + balance (by-day (keep t a b) s d ls) (aside a b) k ≡ noted comes-back a b k ls + balance ls (aside a b) k) × (noted goes-over a b k (by-day (keep t a b) s d ls) ≡ noted goes-over a b k ls))
   kept-tally s d = days-ind (keep t a b) (λ ms. Never-below-zero ms × ((k : ℕ) → (noted comes-back a b k ms + balance ms (aside a b) k ≡ noted comes-back a b k ls + balance ls (aside a b) k) × (noted goes-over a b k ms ≡ noted goes-over a b k ls))) s d
-      (λ j ms lo hi A. (nbz-post ms (A .0) t Kept a b j (balance ms (aside a b) j) (omega arith), (λ k.
-        let z : cond (eqb j k && false) (balance ms (aside a b) j) 0 ≡ 0 = cond-never (eqb j k) (balance ms (aside a b) j) in
-        (omega (arith, balance-post ms (A .0) t Kept a b j (balance ms (aside a b) j) (omega arith) (aside a b) k (omega arith), noted-post comes-back a b k t Kept a b j (balance ms (aside a b) j) ms, A .1 k .0),
-         omega (arith, noted-post goes-over a b k t Kept a b j (balance ms (aside a b) j) ms, A .1 k .1))))) ls (f, (λ k. (refl, refl)))
+      (λ j ms lo hi A. (
+        nbz-post ms (A .0) t Kept a b j (balance ms (aside a b) j) (omega arith),
+        (λ k.
+            let z : cond (eqb j k && false) (balance ms (aside a b) j) 0 ≡ 0 = cond-never (eqb j k) (balance ms (aside a b) j) in (
+              omega (arith, balance-post ms (A .0) t Kept a b j (balance ms (aside a b) j) (omega arith) (aside a b) k (omega arith), noted-post comes-back a b k t Kept a b j (balance ms (aside a b) j) ms, A .1 k .0),
+              omega (arith, noted-post goes-over a b k t Kept a b j (balance ms (aside a b) j) ms, A .1 k .1),
+            )),
+      )) ls (f, (λ k. (refl, refl)))
 
   -- extension days tell nothing of it
   pub extend-tally : (y c d s n : ℕ) → (k : ℕ) → (balance (by-day (extend t y c d) s n ls) (aside a b) k ≡ balance ls (aside a b) k) × (noted comes-back a b k (by-day (extend t y c d) s n ls) ≡ noted comes-back a b k ls) × (noted goes-over a b k (by-day (extend t y c d) s n ls) ≡ noted goes-over a b k ls)
@@ -157,12 +167,18 @@ module _ (t a b : ℕ) (ls : List Line) (f : Never-below-zero ls) where
       still : (κ : LineKind) → ((x z : ℕ) → same (aside a b) (from κ x z) ≡ false) → ((x z : ℕ) → same (aside a b) (to κ x z) ≡ false) → (x z j m : ℕ) (ms : List Line) → m ≤ balance ms (from κ x z) j →
           Never-below-zero ms × ((k : ℕ) → (balance ms (aside a b) k ≡ balance ls (aside a b) k) × (noted comes-back a b k ms ≡ noted comes-back a b k ls) × (noted goes-over a b k ms ≡ noted goes-over a b k ls)) →
           Never-below-zero (post t κ x z j m ms) × ((k : ℕ) → (balance (post t κ x z j m ms) (aside a b) k ≡ balance ls (aside a b) k) × (noted comes-back a b k (post t κ x z j m ms) ≡ noted comes-back a b k ls) × (noted goes-over a b k (post t κ x z j m ms) ≡ noted goes-over a b k ls))
-      still κ nf nt x z j m ms paid A = (nbz-post ms (A .0) t κ x z j m paid, (λ k.
-          let c₁ : cond (eqb j k && same (aside a b) (from κ x z)) m 0 ≡ 0 = rw (nf x z) (cond-never (eqb j k) m) in
-          let c₂ : cond (eqb j k && same (aside a b) (to κ x z)) m 0 ≡ 0 = rw (nt x z) (cond-never (eqb j k) m) in
-          let q = silent κ a b x z m (eqb j k) (nf x z) in
-          (omega (arith, balance-post ms (A .0) t κ x z j m paid (aside a b) k (omega arith), c₁, c₂, A .1 k .0),
-           omega (arith, noted-post comes-back a b k t κ x z j m ms, q .0, A .1 k .1), omega (arith, noted-post goes-over a b k t κ x z j m ms, q .1, A .1 k .2))))
+      still κ nf nt x z j m ms paid A = (
+        nbz-post ms (A .0) t κ x z j m paid,
+        (λ k.
+            let c₁ : cond (eqb j k && same (aside a b) (from κ x z)) m 0 ≡ 0 = rw (nf x z) (cond-never (eqb j k) m) in
+            let c₂ : cond (eqb j k && same (aside a b) (to κ x z)) m 0 ≡ 0 = rw (nt x z) (cond-never (eqb j k) m) in
+            let q = silent κ a b x z m (eqb j k) (nf x z) in (
+              omega (arith, balance-post ms (A .0) t κ x z j m paid (aside a b) k (omega arith), c₁, c₂, A .1 k .0),
+              omega (arith, noted-post comes-back a b k t κ x z j m ms, q .0, A .1 k .1),
+              omega (arith, noted-post goes-over a b k t κ x z j m ms, q .1, A .1 k .2),
+            )),
+      )
+
       both : (j : ℕ) (ms : List Line) (m : ℕ) → Never-below-zero ms × ((k : ℕ) → (balance ms (aside a b) k ≡ balance ls (aside a b) k) × (noted comes-back a b k ms ≡ noted comes-back a b k ls) × (noted goes-over a b k ms ≡ noted goes-over a b k ls)) →
           Never-below-zero (extend t y c d j ms) × ((k : ℕ) → (balance (extend t y c d j ms) (aside a b) k ≡ balance ls (aside a b) k) × (noted comes-back a b k (extend t y c d j ms) ≡ noted comes-back a b k ls) × (noted goes-over a b k (extend t y c d j ms) ≡ noted goes-over a b k ls))
       both j ms m A = still Ceded (λ x z. refl) (λ x z. refl) d c j _ _ (omega arith) (still Extended (λ x z. refl) (λ x z. refl) c d j (min (free-on ms j) y) ms (omega arith) A)

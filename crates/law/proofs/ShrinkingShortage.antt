@@ -68,20 +68,22 @@ module _ (r : Request) where
   -- the four kinds of line that a submit writes
   pub later-superseded : (t a k m : ℕ) (ms : List Line) → Never-below-zero ms → m ≤ holding ms a k → Later ms (post t Superseded a (r .aref) k m ms)
   later-superseded t a k m ms f paid = record {
-      nbz = nbz-post ms f t Superseded a (r .aref) k m paid;
-      gain = λ j.
+    nbz = nbz-post ms f t Superseded a (r .aref) k m paid;
+    gain = λ j.
         let z : cond (eqb k j && false) m 0 ≡ 0 = cond-never (eqb k j) m in
         omega (arith, balance-post ms f t Superseded a (r .aref) k m paid free j (omega arith), taken-post (r .aref) j t Superseded a (r .aref) k m ms);
-      less = λ c j ne. less-post ms f t Superseded a (r .aref) k m paid (held c) j (omega arith) refl }
+    less = λ c j ne. less-post ms f t Superseded a (r .aref) k m paid (held c) j (omega arith) refl;
+  }
 
   pub later-granted : (t a k m : ℕ) (ms : List Line) → Never-below-zero ms → m ≤ free-on ms k → Later ms (post t Granted a (r .aref) k m ms)
   later-granted t a k m ms f paid = record {
-      nbz = nbz-post ms f t Granted a (r .aref) k m paid;
-      gain = λ j.
+    nbz = nbz-post ms f t Granted a (r .aref) k m paid;
+    gain = λ j.
         let z : cond (eqb k j && false) m 0 ≡ 0 = cond-never (eqb k j) m in
         let w : cond (eqb k j && true) m 0 ≡ cond (eqb (r .aref) (r .aref) && eqb k j) m 0 = rw (eq-eqb (r .aref) (r .aref) refl) (and-ever (eqb k j)) in
         omega (arith, balance-post ms f t Granted a (r .aref) k m paid free j (omega arith), taken-post (r .aref) j t Granted a (r .aref) k m ms);
-      less = λ c j ne. less-post ms f t Granted a (r .aref) k m paid (held c) j (omega arith) (ne-eqb c (r .aref) ne) }
+    less = λ c j ne. less-post ms f t Granted a (r .aref) k m paid (held c) j (omega arith) (ne-eqb c (r .aref) ne);
+  }
     where
       and-ever : (b : Bool) → cond (b && true) m 0 ≡ cond b m 0
       and-ever true = refl
@@ -90,17 +92,19 @@ module _ (r : Request) where
   -- given is SetAside or Recalled
   pub later-given : (c : Bool) (t a k m : ℕ) (ms : List Line) → Never-below-zero ms → m ≤ holding ms a k → Later ms (post t (cond c SetAside Recalled) a (r .aref) k m ms)
   later-given true t a k m ms f paid = record {
-      nbz = nbz-post ms f t SetAside a (r .aref) k m paid;
-      gain = λ j.
+    nbz = nbz-post ms f t SetAside a (r .aref) k m paid;
+    gain = λ j.
         let z : cond (eqb k j && false) m 0 ≡ 0 = cond-never (eqb k j) m in
         omega (arith, balance-post ms f t SetAside a (r .aref) k m paid free j (omega arith), taken-post (r .aref) j t SetAside a (r .aref) k m ms);
-      less = λ c j ne. less-post ms f t SetAside a (r .aref) k m paid (held c) j (omega arith) refl }
+    less = λ c j ne. less-post ms f t SetAside a (r .aref) k m paid (held c) j (omega arith) refl;
+  }
   later-given false t a k m ms f paid = record {
-      nbz = nbz-post ms f t Recalled a (r .aref) k m paid;
-      gain = λ j.
+    nbz = nbz-post ms f t Recalled a (r .aref) k m paid;
+    gain = λ j.
         let z : cond (eqb k j && false) m 0 ≡ 0 = cond-never (eqb k j) m in
         omega (arith, balance-post ms f t Recalled a (r .aref) k m paid free j (omega arith), taken-post (r .aref) j t Recalled a (r .aref) k m ms);
-      less = λ c j ne. less-post ms f t Recalled a (r .aref) k m paid (held c) j (omega arith) (ne-eqb c (r .aref) ne) }
+    less = λ c j ne. less-post ms f t Recalled a (r .aref) k m paid (held c) j (omega arith) (ne-eqb c (r .aref) ne);
+  }
 
   -- what a giver gives on a short day: all, or what ends the shortage
   given-all : (c : Bool) (t a k : ℕ) (ms : List Line) → Never-below-zero ms → (a ≡ r .aref → ⊥) →
@@ -113,7 +117,7 @@ module _ (r : Request) where
       let tk = taken-post (r .aref) k t SetAside a (r .aref) k m ms in
       let tk′ = rw (eq-eqb (r .aref) (r .aref) refl, eq-eqb k k refl) at tk in
       gives-out _ _ _ _ _ _ _ _ _ (from-post ms f t SetAside a (r .aref) k m paid (omega arith) refl)
-        (omega (arith, balance-post ms f t SetAside a (r .aref) k m paid free k (omega arith))) tk′ refl p
+      (omega (arith, balance-post ms f t SetAside a (r .aref) k m paid free k (omega arith))) tk′ refl p
   given-all false t a k ms f ne p =
       let m = min (holding ms a k) (short r k ms) in
       let paid : m ≤ holding ms a k = omega arith in
@@ -121,7 +125,7 @@ module _ (r : Request) where
       let tk = taken-post (r .aref) k t Recalled a (r .aref) k m ms in
       let tk′ = rw (eq-eqb (r .aref) (r .aref) refl, eq-eqb k k refl) at tk in
       gives-out _ _ _ _ _ _ _ _ _ (from-post ms f t Recalled a (r .aref) k m paid (omega arith) (ne-eqb a (r .aref) ne))
-        (omega (arith, balance-post ms f t Recalled a (r .aref) k m paid free k (omega arith))) tk′ refl p
+      (omega (arith, balance-post ms f t Recalled a (r .aref) k m paid free k (omega arith))) tk′ refl p
 
   -- d holds nothing on a day that is still short
   abbrev pub Given-up : Entry → List Line → Type 0
@@ -153,16 +157,18 @@ module _ (r : Request) where
       where
         L : Later ls (give R t r d ls)
         L = later-give ls f
+
         go : (holding ls (aref-of d) k ≡ 0) ⊎ ((start-of d ≤ k) × (k < start-of d + length-of d)) → holding (give R t r d ls) (aref-of d) k ≡ 0
         go (inl z) = omega (arith, L .less (aref-of d) k ne)
         go (inr w) = days-each _ Never-below-zero (λ j ms. 0 < short r j ms → holding ms (aref-of d) j ≡ 0) (start-of d) (length-of d)
-          (λ j ms lo hi p. nbz-given j ms p)
-          (λ j ms p. given-all (R .may-match r (d .standing)) t (aref-of d) j ms p ne)
-          (λ i j ms p g s. omega (arith, g (omega (arith, shorter ms _ (one j ms p) i)), one j ms p .less (aref-of d) i ne))
-          ls f k (w .0) (w .1) q
+            (λ j ms lo hi p. nbz-given j ms p)
+            (λ j ms p. given-all (R .may-match r (d .standing)) t (aref-of d) j ms p ne)
+            (λ i j ms p g s. omega (arith, g (omega (arith, shorter ms _ (one j ms p) i)), one j ms p .less (aref-of d) i ne))
+            ls f k (w .0) (w .1) q
           where
             one : (j : ℕ) (ms : List Line) → Never-below-zero ms → Later ms (post t (cond (R .may-match r (d .standing)) SetAside Recalled) (aref-of d) (r .aref) j (min (holding ms (aref-of d) j) (short r j ms)) ms)
             one j ms p = later-given (R .may-match r (d .standing)) t (aref-of d) j _ ms p (omega arith)
+
             nbz-given : (j : ℕ) (ms : List Line) → Never-below-zero ms → Never-below-zero (post t (cond (R .may-match r (d .standing)) SetAside Recalled) (aref-of d) (r .aref) j (min (holding ms (aref-of d) j) (short r j ms)) ms)
             nbz-given j ms p = one j ms p .nbz
 
@@ -185,13 +191,15 @@ module _ (r : Request) where
       where
         all-of-it : List Line
         all-of-it = by-day (λ k ms. post t Superseded (aref-of d) (r .aref) k (holding ms (aref-of d) k) ms) (start-of d) (length-of d) ls
+
         whole : (holding ls (aref-of d) k ≡ 0) ⊎ ((start-of d ≤ k) × (k < start-of d + length-of d)) → holding (by-day (λ k ms. post t Superseded (aref-of d) (r .aref) k (holding ms (aref-of d) k) ms) (start-of d) (length-of d) ls) (aref-of d) k ≡ 0
         whole (inl z) = omega (arith, later-sup-days ls f .less (aref-of d) k ne)
         whole (inr w) = days-each _ Never-below-zero (λ j ms. holding ms (aref-of d) j ≡ 0) (start-of d) (length-of d)
-          (λ j ms lo hi p. nbz-post ms p t Superseded (aref-of d) (r .aref) j (holding ms (aref-of d) j) (omega arith))
-          (λ j ms p. omega (arith, from-post ms p t Superseded (aref-of d) (r .aref) j (holding ms (aref-of d) j) (omega arith) (omega arith) refl))
-          (λ i j ms p g. omega (arith, later-superseded t (aref-of d) j (holding ms (aref-of d) j) ms p (omega arith) .less (aref-of d) i ne))
-          ls f k (w .0) (w .1)
+            (λ j ms lo hi p. nbz-post ms p t Superseded (aref-of d) (r .aref) j (holding ms (aref-of d) j) (omega arith))
+            (λ j ms p. omega (arith, from-post ms p t Superseded (aref-of d) (r .aref) j (holding ms (aref-of d) j) (omega arith) (omega arith) refl))
+            (λ i j ms p g. omega (arith, later-superseded t (aref-of d) j (holding ms (aref-of d) j) ms p (omega arith) .less (aref-of d) i ne))
+            ls f k (w .0) (w .1)
+
         go : (c : Bool) → meets-shortage r d ls ≡ c → 0 < short r k (cond c (by-day (λ k ms. post t Superseded (aref-of d) (r .aref) k (holding ms (aref-of d) k) ms) (start-of d) (length-of d) ls) ls) → holding (cond c (by-day (λ k ms. post t Superseded (aref-of d) (r .aref) k (holding ms (aref-of d) k) ms) (start-of d) (length-of d) ls) ls) (aref-of d) k ≡ 0
         go true e p = whole (in-or-none d ls k h)
         go false e p = un (in-or-none d ls k h)

@@ -92,10 +92,10 @@ module _ (n : ℕ) (p : ℕ → ℕ) where
   pub fine-push : (ls : List Line) (l : Line) → Fine n p ls → l .mw ≤ balance ls (source l) (l .day) → 0 < sort (source l) → l .a < n → l .b < n → Fine n p (ls ++ l ∷ [])
   unfolding balance
   fine-push ls l f m r a b = record {
-      nbz = nbz-push ls l (f .nbz) (λ k x q. omega (arith, never-overdrawn ls (f .nbz) k x q, takes-le x k l (balance ls) m));
-      names = all-push _ ls l (f .names) (a, b);
-      whole = λ k. out-of-push outside k ls l ∙ (rw not-outside (rw cond-never (omega (arith, f .whole k))))
-    }
+    nbz = nbz-push ls l (f .nbz) (λ k x q. omega (arith, never-overdrawn ls (f .nbz) k x q, takes-le x k l (balance ls) m));
+    names = all-push _ ls l (f .names) (a, b);
+    whole = λ k. out-of-push outside k ls l ∙ (rw not-outside (rw cond-never (omega (arith, f .whole k))));
+  }
 
   pub fine-post : (t : ℕ) (κ : LineKind) (a b k m : ℕ) (ls : List Line) → Fine n p ls → m ≤ balance ls (from κ a b) k → 0 < sort (from κ a b) → a < n → b < n → Fine n p (post t κ a b k m ls)
   unfolding post

@@ -43,6 +43,7 @@ module _ (n : ℕ) (p : ℕ → ℕ) where
     where
       one : ℕ → List Line → List Line
       one k ms = post t Superseded (aref-of d) (r .aref) k (holding ms (aref-of d) k) ms
+
       go : (c : Bool) → Fine n p (cond c (by-day (λ k ms. post t Superseded (aref-of d) (r .aref) k (holding ms (aref-of d) k) ms) (start-of d) (length-of d) ls) ls)
       go true = fine-days n p _ (λ k ms g. fine-post n p t Superseded (aref-of d) (r .aref) k (holding ms (aref-of d) k) ms g (omega arith) (omega arith) j h) (start-of d) (length-of d) ls f
       go false = f

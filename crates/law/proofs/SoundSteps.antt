@@ -89,8 +89,8 @@ module _ (R : Rules) (p : ℕ → ℕ) (v : View) (S : Sound p v) where
   good-matched : (t : ℕ) (e : Entry) → small (v .top) e → Good p (v .top) (Calls.matched R t e v)
   good-matched t e l = good-stop p (v .top) _ _ _ (λ _.
       good p _ _ _ _ _ (fine-extend (suc (v .top)) p t _ (aref-of e) (e .against) _ _ _ (omega arith) (omega arith)
-        (fine-keep (suc (v .top)) p t (aref-of e) (e .against) _ _ (v .lines) (omega arith) (omega arith) (S .fine)))
-       (low-close t (v .top) (e .against) _ _ (all-change (small (v .top)) (aref-of e) _ (v .places) (λ d h. (l .0, omega arith)) (S .low))))
+      (fine-keep (suc (v .top)) p t (aref-of e) (e .against) _ _ (v .lines) (omega arith) (omega arith) (S .fine)))
+      (low-close t (v .top) (e .against) _ _ (all-change (small (v .top)) (aref-of e) _ (v .places) (λ d h. (l .0, omega arith)) (S .low))))
 
   good-settles : (t : ℕ) (e : Entry) (s : State) → small (v .top) e → Good p (v .top) (Calls.settles R t e v s)
   good-settles t e Confirmed l = good-flew t e l

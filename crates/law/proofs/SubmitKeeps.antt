@@ -73,6 +73,7 @@ module _ (R : Rules) (t : ℕ) (r : Request) (p : Entry → Bool) (es : List Ent
       own : (k : ℕ) → Within es (aref-of d) k ⊎ ((r .aref ≡ aref-of d) × (r .start ≤ k) × (k < r .start + r .length)) → Within es (aref-of d) k
       own k (inl w) = w
       own k (inr w) = absurd (D .2 (w .0))
+
       go : (c : Bool) → R .may-match r (d .standing) ≡ c → Supp (Hold⁺ es r) (Side⁺ p es r) (by-day (λ k ms. post t (cond c SetAside Recalled) (aref-of d) (r .aref) k (min (holding ms (aref-of d) k) (short r k ms)) ms) (start-of d) (length-of d) ls)
       go true y = days-ind _ (Supp (Hold⁺ es r) (Side⁺ p es r)) (start-of d) (length-of d) (λ k ms lo hi u. supp-post (Hold⁺ es r) (Side⁺ p es r) t SetAside (aref-of d) (r .aref) k _ ms (omega arith)
           (λ q. let w = short-in r k ms (omega arith) in inr (refl, own k (u .holds (aref-of d) k (omega arith)), subst (λ x. p x ≡ true) (sym (D .0)) (D .1 y), w .0, w .1)) u) ls s
@@ -127,19 +128,23 @@ module _ (R : Rules) (t : ℕ) (r : Request) (s : State) (es : List Entry) (ls :
   pub whole-seat : (A : ℕ → ℕ → ℕ → Type 0) → ((a b k : ℕ) → 0 < balance ls (aside a b) k → A a b k → Siding (find a es) b k × (Facing (find b es) k ⊎ ((r .aref ≡ b) × Of r k × (is-competing s ≡ true)))) →
       Supp (Hold⁺ es r) A ls → Whole ls (seat x es)
   whole-seat A side p = record {
-      supp = supp-into (Hold⁺ es r) (Within (seat x es)) A (Apart (seat x es)) ls (λ c k q w. hold c k w) (λ a b k q w. let u = side a b k q w in
+    supp = supp-into (Hold⁺ es r) (Within (seat x es)) A (Apart (seat x es)) ls (λ c k q w. hold c k w) (λ a b k q w. let u = side a b k q w in
         (subst (λ e. Siding e b k) (sym (find-seat-other x a es (not-new a k (u .0 .0)))) (u .0), face b k (u .1))) p;
-      once = λ a. only a (cases-eq (r .aref) a) }
+    once = λ a. only a (cases-eq (r .aref) a);
+  }
     where
       hold : (c k : ℕ) → Within es c k ⊎ ((r .aref ≡ c) × (r .start ≤ k) × (k < r .start + r .length)) → Within (seat x es) c k
       hold c k (inl w) = seated c k w
       hold c k (inr w) = itself c k (w .0) (w .1, w .2)
+
       face : (b k : ℕ) → Facing (find b es) k ⊎ ((r .aref ≡ b) × Of r k × (is-competing s ≡ true)) → Facing (find b (seat x es)) k
       face b k (inl w) = subst (λ e. Facing e k) (sym (find-seat-other x b es (not-new b k (w .0)))) w
       face b k (inr w) = (itself b k (w .0) (w .1), subst (λ i. is-competing (find i (seat x es) .standing .state) ≡ true) (w .0) (subst (λ e. is-competing (e .standing .state) ≡ true) (sym (find-seat x es lives place new)) (w .2)))
+
       below : (c : Bool) → cond c 1 0 ≤ 1
       below true = omega arith
       below false = omega arith
+
       only : (a : ℕ) → (r .aref ≡ a) ⊎ (r .aref ≡ a → ⊥) → count a (seat x es) ≤ 1
       only a (inl q) = let z = subst (λ i. count i es ≡ 0) q new in omega (arith, count-seat x a es, below (is a x))
       only a (inr ne) = let z : is a x ≡ false = and-right (living x) (eqb (r .aref) a) (ne-eqb (r .aref) a ne) in let w = count-seat x a es in let y = rw z at w in omega (arith, once a)
@@ -182,6 +187,7 @@ module _ (R : Rules) (t : ℕ) (r : Request) (v : View) (ms : List Line) where
       one e true true false = refl
       one e true false c = refl
       one e false b c = refl
+
       two : (e : Entry) → living e ≡ false → living (g e) ≡ false
       two e l = rw (cond-false (p e) _ e (and-left _ _ (gone-not (e .standing .state) l))) l
 
@@ -190,6 +196,7 @@ module _ (R : Rules) (t : ℕ) (r : Request) (v : View) (ms : List Line) where
     where
       e : Entry
       e = find c (v .places)
+
       go : (a b d : Bool) → empty ms (find c (v .places)) ≡ d → Holding (cond a (cond b (cond d (leave (find c (v .places))) (find c (v .places))) (record { standing = record { request = find c (v .places) .standing .request; state = Challenged; queued = find c (v .places) .standing .queued }; due = R .answer-by r (e .standing) t (v .days); against = r .aref })) (find c (v .places))) k
       go true true true m = absurd (not-empty ms (find c (v .places)) k m (w .1) (w .2) (subst (λ i. 0 < holding ms i k) (sym (find-aref c (v .places) (w .0))) q))
       go true true false m = w
@@ -231,9 +238,11 @@ module _ (R : Rules) (t : ℕ) (r : Request) (v : View) (ms : List Line) where
       alive : (c : Bool) → not (is-gone (cond c Competing Confirmed)) ≡ true
       alive true = refl
       alive false = refl
+
       hold : (c k : ℕ) → 0 < holding ms c k → Hold⁺ (v .places) r c k → Hold⁺ (map g (v .places)) r c k
       hold c k q (inl w) = let u = hold-after c k q w in inl (subst (λ e. Holding e k) (sym (find-map g tame-after c (v .places) (w .0) (u .0))) u)
       hold c k q (inr w) = inr w
+
       side : (a b k : ℕ) → 0 < balance ms (aside a b) k → Side⁺ pr (v .places) r a b k → Siding (find a (map g (v .places))) b k × (Facing (find b (map g (v .places))) k ⊎ ((r .aref ≡ b) × Of r k × (is-competing (cond (Places.match-open (map g (v .places))) Competing Confirmed) ≡ true)))
       side a b k q (inl w) = absurd (false≢true (sym (all-find (λ x. is-challenged (x .standing .state) ≡ false) a (v .places) refl (none-false _ (v .places) closed)) ∙ w .0 .1))
       side a b k q (inr w) =

@@ -61,9 +61,11 @@ different p l (e ∷ es) o = go (p e) refl (different p l es (λ a. omega (arith
         put : (c : Bool) → p x ≡ c → All (λ y. p y ≡ true) (kept-by p xs) → All (λ y. p y ≡ true) (cond c (x ∷ kept-by p xs) (kept-by p xs))
         put true q h = (q, h)
         put false q h = h
+
     both : (P Q : Entry → Type 0) (xs : List Entry) → All P xs → All Q xs → All (λ x. P x × Q x) xs
     both P Q [] a b = tt
     both P Q (x ∷ xs) a b = ((a .0, b .0), both P Q xs (a .1) (b .1))
+
     go : (c : Bool) → p e ≡ c → Different (kept-by p es) → Different (cond c (e ∷ kept-by p es) (kept-by p es))
     go true q d =
         let z = o (aref-of e) in
@@ -89,9 +91,12 @@ module _ (R : Rules) (L : Lawful R) (p : ℕ → ℕ) (v : View) (I : Right p v)
       let D = defenders-stand R v (I .whole) (I .sound .low) t r up in
       holds-stop P _ _ _ (λ _. holds-stop P _ _ _ (λ _. holds-stop P _ _ _ (λ _.
       holds-if P _ _ _ (λ _. holds P _ _ _ _ (up, g)) (λ _. holds-stop P _ _ _ (λ _.
-      holds-if P _ _ _ (λ _. holds P _ _ _ _ (up, writes-preempt R t r (v .lines) (Preemption.defenders R t r v) (r .start) (r .length)
-          (all-weaker _ _ (λ d h (q : aref-of d ≡ r .aref). h .2 (sym q)) (Preemption.defenders R t r v) D) (v .lines) ([], sym (append-nil (v .lines))) (I .sound .fine .nbz)
-          (all-weaker _ _ (λ d h k q. let w = subst (λ e. Holding e k) (h .0) (I .whole .supp .holds (aref-of d) k q) in (w .1, w .2)) (Preemption.defenders R t r v) D))) (λ _.
+      holds-if P _ _ _ (λ _. holds P _ _ _ _ (
+        up,
+        writes-preempt R t r (v .lines) (Preemption.defenders R t r v) (r .start) (r .length)
+            (all-weaker _ _ (λ d h (q : aref-of d ≡ r .aref). h .2 (sym q)) (Preemption.defenders R t r v) D) (v .lines) ([], sym (append-nil (v .lines))) (I .sound .fine .nbz)
+            (all-weaker _ _ (λ d h k q. let w = subst (λ e. Holding e k) (h .0) (I .whole .supp .holds (aref-of d) k q) in (w .1, w .2)) (Preemption.defenders R t r v) D),
+      )) (λ _.
       holds-stop P _ _ _ (λ _. holds P _ _ _ Offered (up, g)))))))))
 
   -- an earlier defender stands before the giver
@@ -101,25 +106,33 @@ module _ (R : Rules) (L : Lawful R) (p : ℕ → ℕ) (v : View) (I : Right p v)
     where
       lv : living (find e (v .places)) ≡ true
       lv = defends-lives R t r v (find e (v .places)) o
+
       m : List·Memᴰ (find e (v .places)) (Preemption.defenders R t r v)
       m = in-turn-in R (find e (v .places)) _ (kept-in (Preemption.defends R t r (v .days)) (find e (v .places)) (v .places) o (find-in e (v .places) lv))
+
       sorted : Sorted R (pre ++ d ∷ rest)
       sorted = subst (Sorted R) s (sorted-in-turn R L _ (different (Preemption.defends R t r (v .days)) (λ x h. defends-lives R t r v x h) (v .places) (I .whole .once))
           (living-possible (v .days) (Preemption.defends R t r (v .days)) (λ x h. defends-lives R t r v x h) (v .places) terms))
+
       pe : Possible (find e (v .places) .standing .request)
       pe = found-possible v terms e lv
+
       pd : Possible (d .standing .request)
       pd = subst (λ x. Possible (x .standing .request)) f (found-possible v terms a (ap living f ∙ alive))
+
       not-d : find e (v .places) ≡ d → ⊥
       not-d u = w .0 (sym (find-aref e (v .places) lv) ∙ (ap aref-of u ∙ sym q))
+
       other : aref-of (find e (v .places)) ≡ aref-of d → ⊥
       other u = w .0 (sym (find-aref e (v .places) lv) ∙ (u ∙ sym q))
+
       later : List·Memᴰ (find e (v .places)) rest → ⊥
       later n =
           let x : R .gives-before (d .standing) (find e (v .places) .standing) ≡ true = all-mem (λ y. R .gives-before (d .standing) (y .standing) ≡ true) rest (find e (v .places)) (sorted-split R pre d rest sorted) n in
           let y = L .one-first (find e (v .places) .standing) (d .standing) pe pd other in
           let z : R .gives-before (find e (v .places) .standing) (d .standing) ≡ true = subst (λ i. R .gives-before (find e (v .places) .standing) (i .standing) ≡ true) f (w .1) in
           false≢true (sym (y ∙ not-from-true _ x) ∙ z)
+
       go : List·Memᴰ (find e (v .places)) pre ⊎ List·Memᴰ (find e (v .places)) (d ∷ rest) → List·Memᴰ (find e (v .places)) pre
       go (inl n) = n
       go (inr n) = more (List·Memᴰ·cases-cons n)
@@ -147,10 +160,13 @@ module _ (R : Rules) (L : Lawful R) (p : ℕ → ℕ) (v : View) (I : Right p v)
     took : (ms : List Line) (l : Line) → Took r (Preemption.defenders R t r v) ms l → Later r ms (w .lines) → (l .b ≡ r .aref) × Open-to R t r v (l .a) × Earlier-bare R t r v w (l .a) (l .day)
     took ms l T La =
         let s = stands (T .pre) (T .rest) (T .giver) (T .split) in
-        let f : find (l .a) (v .places) ≡ T .giver = ap (λ i. find i (v .places)) (T .from-giver) ∙ s .0 in
-        (T .for-r, ap (Preemption.defends R t r (v .days)) f ∙ s .1, (λ e o E.
-          let m = before (T .pre) (T .rest) (T .giver) (T .split) (l .a) (T .from-giver) f (defends-lives R t r v (T .giver) (s .1)) e o E in
-          bare e (l .day) ms (all-mem (λ x. Given-up r x ms) (T .pre) (find e (v .places)) (T .done) m) o La (T .is-short)))
+        let f : find (l .a) (v .places) ≡ T .giver = ap (λ i. find i (v .places)) (T .from-giver) ∙ s .0 in (
+          T .for-r,
+          ap (Preemption.defends R t r (v .days)) f ∙ s .1,
+          (λ e o E.
+              let m = before (T .pre) (T .rest) (T .giver) (T .split) (l .a) (T .from-giver) f (defends-lives R t r v (T .giver) (s .1)) e o E in
+              bare e (l .day) ms (all-mem (λ x. Given-up r x ms) (T .pre) (find e (v .places)) (T .done) m) o La (T .is-short)),
+        )
 
     -- a defender earlier in turn than a pending one is pending
     also-pending : (d : Entry) → Possible (d .standing .request) → is-pending (d .standing .state) ≡ true → (e : ℕ) → Open-to R t r v e → (aref-of (find e (v .places)) ≡ aref-of d → ⊥) → R .gives-before (find e (v .places) .standing) (d .standing) ≡ true → is-pending (find e (v .places) .standing .state) ≡ true
@@ -163,6 +179,7 @@ module _ (R : Rules) (L : Lawful R) (p : ℕ → ℕ) (v : View) (I : Right p v)
         confirmed-is Competing q = absurd (false≢true q)
         confirmed-is Challenged q = absurd (false≢true q)
         confirmed-is Gone q = absurd (false≢true q)
+
         go : (is-pending (find e (v .places) .standing .state) ≡ true) ⊎ (is-confirmed (find e (v .places) .standing .state) ≡ true) → is-pending (find e (v .places) .standing .state) ≡ true
         go (inl q) = q
         go (inr q) =
@@ -183,21 +200,25 @@ module _ (R : Rules) (L : Lawful R) (p : ℕ → ℕ) (v : View) (I : Right p v)
         (l .b ≡ r .aref) × Open-to R t r v (l .a) × (All (λ x. x .kind ≡ Superseded → x .a ≡ l .a → ⊥) xs → (k : ℕ) × (0 < holding (v .lines ++ xs) (l .a) k) × (0 < short r k (v .lines ++ xs)) × Earlier-bare R t r v w (l .a) k)
     ousted xs l T La =
         let s = stands (T .pre) (T .rest) (T .giver) (T .split) in
-        let f : find (l .a) (v .places) ≡ T .giver = ap (λ i. find i (v .places)) (T .from-giver) ∙ s .0 in
-        (T .for-r, ap (Preemption.defends R t r (v .days)) f ∙ s .1, (λ first.
-          let e₁ : xs ≡ T .start .0 ++ T .since = append-cancel-left (v .lines) xs (T .start .0 ++ T .since) (T .now ∙ (ap (λ x. x ++ T .since) (T .start .1) ∙ append-assoc (v .lines) (T .start .0) (T .since))) in
-          let own : All (λ x. x .kind ≡ Superseded → x .a ≡ aref-of (T .giver) → ⊥) (T .since) = second _ (T .start .0) (T .since) (subst (λ x. All (λ y. y .kind ≡ Superseded → y .a ≡ aref-of (T .giver) → ⊥) x) e₁ (subst (λ a. All (λ x. x .kind ≡ Superseded → x .a ≡ a → ⊥) xs) (T .from-giver) first)) in
-          let nil : T .since ≡ [] = none-since (aref-of (T .giver)) (T .since) own (T .own) in
-          let same : v .lines ++ xs ≡ T .before = T .now ∙ (ap (λ x. T .before ++ x) nil ∙ append-nil (T .before)) in
-          (T .day′,
-           subst (λ x. 0 < holding x (l .a) (T .day′)) (sym same) (subst (λ a. 0 < holding (T .before) a (T .day′)) (sym (T .from-giver)) (T .held-some)),
-           subst (λ x. 0 < short r (T .day′) x) (sym same) (T .was-short),
-           (λ e o E.
-             let m = before (T .pre) (T .rest) (T .giver) (T .split) (l .a) (T .from-giver) f (defends-lives R t r v (T .giver) (s .1)) e o E in
-             let lv = defends-lives R t r v (find e (v .places)) o in
-             let ne : aref-of (find e (v .places)) ≡ aref-of (T .giver) → ⊥ = λ u. E .0 (sym (find-aref e (v .places) lv) ∙ (u ∙ sym (T .from-giver))) in
-             let pe = also-pending (T .giver) (subst (λ x. Possible (x .standing .request)) f (found-possible v terms (l .a) (ap living f ∙ defends-lives R t r v (T .giver) (s .1)))) (T .was-pending) e o ne (subst (λ i. R .gives-before (find e (v .places) .standing) (i .standing) ≡ true) f (E .1)) in
-             bare e (T .day′) (T .before) (all-mem (λ x. is-pending (x .standing .state) ≡ true → Given-up r x (T .before)) (T .pre) (find e (v .places)) (T .done) m pe) o (later-trans r (T .before) (v .lines ++ xs) (w .lines) (T .left) La) (T .was-short)))))
+        let f : find (l .a) (v .places) ≡ T .giver = ap (λ i. find i (v .places)) (T .from-giver) ∙ s .0 in (
+          T .for-r,
+          ap (Preemption.defends R t r (v .days)) f ∙ s .1,
+          (λ first.
+              let e₁ : xs ≡ T .start .0 ++ T .since = append-cancel-left (v .lines) xs (T .start .0 ++ T .since) (T .now ∙ (ap (λ x. x ++ T .since) (T .start .1) ∙ append-assoc (v .lines) (T .start .0) (T .since))) in
+              let own : All (λ x. x .kind ≡ Superseded → x .a ≡ aref-of (T .giver) → ⊥) (T .since) = second _ (T .start .0) (T .since) (subst (λ x. All (λ y. y .kind ≡ Superseded → y .a ≡ aref-of (T .giver) → ⊥) x) e₁ (subst (λ a. All (λ x. x .kind ≡ Superseded → x .a ≡ a → ⊥) xs) (T .from-giver) first)) in
+              let nil : T .since ≡ [] = none-since (aref-of (T .giver)) (T .since) own (T .own) in
+              let same : v .lines ++ xs ≡ T .before = T .now ∙ (ap (λ x. T .before ++ x) nil ∙ append-nil (T .before)) in (
+                T .day′,
+                subst (λ x. 0 < holding x (l .a) (T .day′)) (sym same) (subst (λ a. 0 < holding (T .before) a (T .day′)) (sym (T .from-giver)) (T .held-some)),
+                subst (λ x. 0 < short r (T .day′) x) (sym same) (T .was-short),
+                (λ e o E.
+                    let m = before (T .pre) (T .rest) (T .giver) (T .split) (l .a) (T .from-giver) f (defends-lives R t r v (T .giver) (s .1)) e o E in
+                    let lv = defends-lives R t r v (find e (v .places)) o in
+                    let ne : aref-of (find e (v .places)) ≡ aref-of (T .giver) → ⊥ = λ u. E .0 (sym (find-aref e (v .places) lv) ∙ (u ∙ sym (T .from-giver))) in
+                    let pe = also-pending (T .giver) (subst (λ x. Possible (x .standing .request)) f (found-possible v terms (l .a) (ap living f ∙ defends-lives R t r v (T .giver) (s .1)))) (T .was-pending) e o ne (subst (λ i. R .gives-before (find e (v .places) .standing) (i .standing) ≡ true) f (E .1)) in
+                    bare e (T .day′) (T .before) (all-mem (λ x. is-pending (x .standing .state) ≡ true → Given-up r x (T .before)) (T .pre) (find e (v .places)) (T .done) m pe) o (later-trans r (T .before) (v .lines ++ xs) (w .lines) (T .left) La) (T .was-short)),
+              )),
+        )
 
     rightly : (xs : List Line) (l : Line) (κ : LineKind) → Told r (v .lines) (Preemption.defenders R t r v) (v .lines ++ xs) l κ → Later r (v .lines ++ xs) (w .lines) → Rightly-taken R t r v w xs (v .lines ++ xs) l κ
     rightly xs l Posted T La = T

@@ -77,6 +77,7 @@ module _ (days : Days) where
     where
       closed : (e : Entry) → living e ≡ true → Termed days e → Termed days (close R t ls e)
       closed e l k = termed-cond (is-pending (closed-state ls e)) (due-at (t + R .confirm-time (in-state (closed-state ls e) e .standing)) (in-state (closed-state ls e) e)) (due-at (over-at e) (in-state (closed-state ls e) e)) (k .0, k .1, λ _. k .2 l) (k .0, k .1, λ _. k .2 l)
+
       go : (c : Bool) → All (Termed days) (cond c es (change b (close R t ls) es))
       go true = h
       go false = all-changed b (close R t ls) es closed h
@@ -100,8 +101,8 @@ module _ (R : Rules) (v : View) (T : All (Termed (v .days)) (v .places)) where
       let new = raised (c .standing .request) (e .standing .request) in
       let fits = ltb-false (length (v .days .amounts)) (start-of e + length-of e + (new .length - length-of e)) (or-parts _ _ passed .0) in
       holds (λ ls es. All (Termed (v .days)) es) _ _ _ _
-        (all-closed (v .days) R t _ (e .against) _ (all-changed (v .days) (aref-of e) _ (v .places)
-          (λ d _ _. (omega (arith, k .0, kc .0), omega (arith, fits, k .1), λ _. omega (arith, k .2 l))) T)))
+      (all-closed (v .days) R t _ (e .against) _ (all-changed (v .days) (aref-of e) _ (v .places)
+      (λ d _ _. (omega (arith, k .0, kc .0), omega (arith, fits, k .1), λ _. omega (arith, k .2 l))) T)))
 
   inside-by : (p : State → Bool) (a : ℕ) (f : Entry → Made) → (living (find a (v .places)) ≡ true → Holds (λ ls es. All (Termed (v .days)) es) (f (find a (v .places)))) → Holds (λ ls es. All (Termed (v .days)) es) (by-aref p a v f)
   inside-by p a f h = holds-stop (λ ls es. All (Termed (v .days)) es) _ _ _ (λ lives. holds-stop (λ ls es. All (Termed (v .days)) es) _ _ _ (λ _. h (ap not lives)))

@@ -55,6 +55,7 @@ module _ (Q : List Line → Line → Type 0) where
             more : (ys ≡ []) ⊎ ((us : List Line) × (u : Line) × (ys ≡ us ++ u ∷ [])) → (y ∷ ys ≡ []) ⊎ ((us : List Line) × (u : Line) × (y ∷ ys ≡ us ++ u ∷ []))
             more (inl n) = inr ([], y, ap (λ u. y ∷ u) n)
             more (inr v) = inr (y ∷ v .0, v .1, ap (λ u. y ∷ u) (v .2))
+
         go : ((ys : List Line) → ms ≡ (ls ++ xs) ++ l ∷ ys → Q (ls ++ xs) l × T (ls ++ xs) ms) → (zs ≡ []) ⊎ ((us : List Line) × (y : Line) × (zs ≡ us ++ y ∷ [])) → Q (ls ++ xs) l × T (ls ++ xs) ns
         go ih (inl n) =
             let p : ms ++ m ∷ [] ≡ (ls ++ xs) ++ l ∷ [] = sym e ∙ (q ∙ ap (λ u. (ls ++ xs) ++ l ∷ u) n) in

@@ -76,7 +76,7 @@ extend minute x a b day ls =
 abbrev pub closed-state : List Line → Entry → State
 closed-state ls e =
     cond (each-day (λ day. leb (wanted (e .standing .request) day) (holding ls (aref-of e) day)) (start-of e) (length-of e)) Confirmed
-      (cond (empty ls e) Gone Offered)
+    (cond (empty ls e) Gone Offered)
 
 abbrev pub close : Rules → ℕ → List Line → Entry → Entry
 close R minute ls e =
@@ -121,12 +121,12 @@ steps R minute r v =
     let ls = preempt R minute r v in
     let es = map (after-preempt R minute r v ls) (v .places) in
     if-so (each-day (λ day. leb (wanted r day) (free-on (v .lines) day)) (r .start) (r .length))
-      (entered R minute r (cond (r .preconfirmed) Confirmed Accepted) granted (v .places))
+    (entered R minute r (cond (r .preconfirmed) Confirmed Accepted) granted (v .places))
     (stop-if (match-open (v .places)) MatchOpen
     (if-so (R .in-time r minute (v .days) && each-day (λ day. leb (wanted r day) (free-on (v .lines) day + holdings (v .lines) (defenders R minute r v) day)) (r .start) (r .length))
-      (entered R minute r (cond (match-open es) Competing Confirmed) ls es)
+    (entered R minute r (cond (match-open es) Competing Confirmed) ls es)
     (stop-if (each-day (λ day. eqb (free-on (v .lines) day) 0) (r .start) (r .length)) NothingFree
-      (entered R minute r Offered granted (v .places)))))
+    (entered R minute r Offered granted (v .places)))))
 
 abbrev pub submitted : Rules → ℕ → Request → View → Made
 submitted R minute r v =
@@ -224,9 +224,10 @@ pub data Answer : Type 0 where
 abbrev pub written : Call → View → Made → Answer × View
 written c v (refused e) = (refusal e, v)
 written c v (makes ls es a s) =
-    cond (ltb (v .room) (length ls)) (refusal JournalFull, v)
-    (done a s (length (v .lines)) (length ls - length (v .lines)),
-     record { days = v .days; room = v .room; lines = ls; places = es; clock = minute-of c; top = new-top c (v .top) })
+    cond (ltb (v .room) (length ls)) (refusal JournalFull, v) (
+      done a s (length (v .lines)) (length ls - length (v .lines)),
+      record { days = v .days; room = v .room; lines = ls; places = es; clock = minute-of c; top = new-top c (v .top) },
+    )
 
 -- a minute past the limit or before the last accepted call, and a due item, stop any call; settle is not stopped by what is due
 abbrev pub asked : Rules → Call → View → Made

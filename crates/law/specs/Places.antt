@@ -48,4 +48,5 @@ abbrev pub new-record : Rules → ℕ → Request → State → Entry
 new-record R minute r s = record {
   standing = record { request = r; state = s; queued = minute };
   due = cond (is-pending s) (minute + R .confirm-time (record { request = r; state = s; queued = minute })) (first-minute (r .start + r .length));
-  against = 0 }
+  against = 0;
+}

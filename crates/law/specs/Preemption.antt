@@ -53,14 +53,14 @@ meets-shortage r d ls = not (each-day (λ day. eqb (holding ls (aref-of d) day) 
 abbrev pub supersede : ℕ → Request → Entry → List Line → List Line
 supersede minute r d ls =
     cond (meets-shortage r d ls)
-      (by-day (λ day ms. post minute Superseded (aref-of d) (r .aref) day (holding ms (aref-of d) day) ms) (start-of d) (length-of d) ls)
-      ls
+    (by-day (λ day ms. post minute Superseded (aref-of d) (r .aref) day (holding ms (aref-of d) day) ms) (start-of d) (length-of d) ls)
+    ls
 
 -- a confirmed defender gives the lesser of holding and shortage on each day: set aside if it may match, else recalled
 abbrev pub give : Rules → ℕ → Request → Entry → List Line → List Line
 give R minute r d ls =
     by-day (λ day ms. post minute (cond (R .may-match r (d .standing)) SetAside Recalled) (aref-of d) (r .aref) day
-      (min (holding ms (aref-of d) day) (short r day ms)) ms) (start-of d) (length-of d) ls
+    (min (holding ms (aref-of d) day) (short r day ms)) ms) (start-of d) (length-of d) ls
 
 unfoldable pub supersede-all : ℕ → Request → List Entry → List Line → List Line
 supersede-all minute r [] ls = ls
@@ -113,6 +113,6 @@ none-aside ls b e = each-day (λ day. eqb (balance ls (aside (aref-of e) b) day)
 abbrev pub after-preempt : Rules → ℕ → Request → View → List Line → Entry → Entry
 after-preempt R minute r v ls e =
     cond (defends R minute r (v .days) e)
-      (cond (none-aside ls (r .aref) e) (cond (empty ls e) (leave e) e)
-        (record { standing = record { request = e .standing .request; state = Challenged; queued = e .standing .queued }; due = R .answer-by r (e .standing) minute (v .days); against = r .aref }))
-      e
+    (cond (none-aside ls (r .aref) e) (cond (empty ls e) (leave e) e)
+    (record { standing = record { request = e .standing .request; state = Challenged; queued = e .standing .queued }; due = R .answer-by r (e .standing) minute (v .days); against = r .aref }))
+    e
