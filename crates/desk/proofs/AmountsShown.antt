@@ -1,19 +1,17 @@
 -- The amounts that memory has of a day are those of the accounts.
 use mathlib.Core.Path.{_≡_, refl, sym, _∙_, ap, subst}
-use mathlib.Core.Bool.{Bool, true, false, _&&_, cond}
+use mathlib.Core.Bool.{true, false, _&&_, cond}
 use mathlib.Core.List.{List, [], _∷_, map}
 use mathlib.Core.Logic.{_⊎_, inl, inr}
 use Prim.Native.Nat.{ℕ, _+_, _-_, _≤_, _<_}
 use native.Mathlib.Omega.{arith}
 use lib.Dec.{leb, ltb}
-use lib.ListN.{length, getD}
+use lib.ListN.{getD}
 use Rattle.std.specs.shelf.Lists.{All, sumBy}
 use Rattle.std.proofs.shelf.Sums.{sumBy-cons}
 use Rattle.std.proofs.shelf.Tests.{cases-bool, cases-lt, and-parts, and-cases, leb-true, leb-false, ltb-true, ltb-false, cond-true, cond-false}
-use Rattle.terms.specs.Days.{Days}
-use Rattle.journal.specs.declared.line.Line.{Line}
 use Rattle.journal.specs.Accounts.{held, aside, balance}
-use Rattle.law.specs.View.{View, Entry, aref-of, start-of, length-of, living, find}
+use Rattle.law.specs.View.{View, aref-of, start-of, living, find}
 use Rattle.law.specs.Keeps.{Kept, In-term, Termed}
 use Rattle.law.specs.Sums.{held-in, aside-in}
 use Rattle.desk.specs.declared.record.Record.{Record}

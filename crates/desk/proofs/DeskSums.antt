@@ -1,18 +1,17 @@
 -- The sums of a sound desk's memory are those of the journal's accounts, and add up to what was posted.
-use mathlib.Core.Path.{_≡_, refl, sym, _∙_, ap}
+use mathlib.Core.Path.{_≡_, _∙_}
 use mathlib.Core.Bool.{true}
 use mathlib.Core.List.{List, [], _∷_, map}
 use Prim.Native.Nat.{ℕ, suc, _+_, _≤_}
 use native.Mathlib.Omega.{arith}
 use Rattle.std.specs.shelf.Lists.{All, sumBy}
 use Rattle.journal.specs.Accounts.{free, flown, balance, held-below, aside-below}
-use Rattle.law.specs.View.{Entry, aref-of, living, find, posted-on}
+use Rattle.law.specs.View.{aref-of, living, find, posted-on}
 use Rattle.law.specs.Keeps.{Termed}
 use Rattle.law.specs.Sums.{Four-sums}
 use Rattle.law.proofs.Finds.{all-found}
 use Rattle.law.proofs.OwnSums.{accounted-kept, four-sums}
 use Rattle.desk.specs.declared.memory.Desk.{Desk}
-use Rattle.desk.specs.declared.record.Record.{Record}
 use Rattle.desk.specs.Desks.{view}
 use Rattle.desk.specs.Records.{held-on, aside-on, entry-of}
 use Rattle.desk.specs.Soundness.{Shows, Sound}

@@ -1,33 +1,32 @@
 -- A desk newly opened is sound: its view is a book newly opened, and its memory shows the accounts.
 use mathlib.Core.Path.{_≡_, refl, sym, _∙_, ap, subst}
-use mathlib.Core.Bool.{Bool, true, false, cond}
+use mathlib.Core.Bool.{Bool, true, false}
 use mathlib.Core.List.{List, [], _∷_, _++_, map}
-use Prim.Native.Nat.{ℕ, zero, suc, _+_, _≤_, _<_}
+use Prim.Native.Nat.{ℕ, zero, suc, _+_, _≤_}
 use native.Mathlib.Omega.{arith}
 use lib.Dec.{leb, eqb}
 use lib.LanesLaws.{map-replicate}
-use lib.ListN.{length, getD, take, replicate}
+use lib.ListN.{length, getD, replicate}
 use Rattle.std.specs.shelf.Lists.{All}
 use Rattle.std.proofs.shelf.Lists.{take-append-le, take-all, getD-replicate, length-append}
-use Rattle.std.proofs.shelf.Tests.{false≢true, and-parts, leb-true, eqb-true}
+use Rattle.std.proofs.shelf.Tests.{and-parts, leb-true, eqb-true}
 use Rattle.std.specs.declared.option.Option.{Option}
 use Rattle.std.specs.declared.option.Option.the-variants.{Some, None}
 use Rattle.terms.specs.declared.refusal.Refusal.{Refusal}
 use Rattle.terms.specs.Days.{Days}
 use Rattle.journal.specs.declared.line.Line.{Line}
 use Rattle.journal.specs.Accounts.{Account, free, balance}
-use Rattle.law.specs.View.{View, Entry, nobody, living, posted-on}
+use Rattle.law.specs.View.{View, Entry}
 use Rattle.law.specs.Keeps.{Kept}
 use Rattle.law.specs.Opened.{postings, opened}
 use Rattle.law.proofs.OpenedKeeps.{Fit, all-alike, kept-opened}
 use Rattle.law.proofs.Postings.{postings-free}
 use Rattle.desk.specs.declared.memory.Desk.{Desk}
 use Rattle.desk.specs.declared.memory.Memory.{Memory}
-use Rattle.desk.specs.declared.record.Record.{Record}
 use Rattle.desk.specs.Desks.{view, days-lent, refusal-over, New, Opened-over}
 use Rattle.desk.specs.Opening.{postings-fit, unless, opening-refusal}
 use Rattle.desk.specs.Records.{entry-of, vacant}
-use Rattle.desk.specs.Soundness.{Shows, Shown, Sound}
+use Rattle.desk.specs.Soundness.{Shows, Sound}
 
 views-alike : (days days′ : Days) (room : ℕ) (ls ls′ : List Line) (es es′ : List Entry) (clock clock′ top top′ : ℕ) →
     days ≡ days′ → ls ≡ ls′ → es ≡ es′ → clock ≡ clock′ → top ≡ top′ →

@@ -1,7 +1,6 @@
 -- Where the rules turn: one small table of answers on both sides of each edge, read off the meanings of the sheets.
 use mathlib.Core.Path.{_≡_}
-use mathlib.Core.Bool.{Bool, true, false}
-use mathlib.Core.List.{List, []}
+use mathlib.Core.Bool.{true, false}
 use Prim.Native.Nat.{ℕ}
 use lib.ListN.{replicate}
 use Rattle.terms.specs.declared.words.Kind.{Kind}
@@ -13,7 +12,6 @@ use Rattle.terms.specs.declared.words.State.the-variants.{Confirmed, Accepted}
 use Rattle.terms.specs.declared.request.Request.{Request}
 use Rattle.terms.specs.declared.request.Standing.{Standing}
 use Rattle.terms.specs.Days.{Days}
-use Rattle.sheets.specs.Rules.{Rules}
 use Rattle.firm.specs.Firm.{firm}
 use Rattle.bid.specs.Bid.{bid}
 

@@ -1,5 +1,4 @@
 -- The firm sheet keeps the laws.
-use mathlib.Core.Path.{_≡_}
 use native.Mathlib.Omega.{arith}
 use Rattle.std.proofs.shelf.Ways.{tells}
 use Rattle.sheets.specs.Laws.{Lawful}

@@ -1,5 +1,5 @@
 -- Double entry: lines that never take more than there is lose nothing.
-use mathlib.Core.Path.{_≡_, refl, sym, _∙_, ap}
+use mathlib.Core.Path.{_≡_, refl, sym, _∙_}
 use mathlib.Core.List.{List, [], _∷_}
 use mathlib.Core.Bool.{Bool, true, false, _&&_, cond}
 use Prim.Native.Nat.{ℕ, _+_, _-_, _≤_, _<_}
@@ -11,7 +11,7 @@ use Rattle.std.proofs.shelf.Lists.{take-all}
 use Rattle.journal.specs.declared.line.Line.{Line}
 use Rattle.journal.specs.declared.line.LineKind.{LineKind}
 use Rattle.journal.specs.declared.line.LineKind.the-variants.{Posted, Granted, Superseded, Recalled, SetAside, Lost, Kept, Extended, Ceded, Released, Flown}
-use Rattle.journal.specs.Accounts.{Account, outside, free, flown, held, aside, sort, owner, claimant, same, from, to, source, target, brings, takes, into, out-of, balance, sum-below, brought, Never-below-zero, None-lost}
+use Rattle.journal.specs.Accounts.{Account, outside, free, flown, held, aside, sort, owner, claimant, same, from, to, source, target, brings, takes, into, out-of, balance, sum-below, Never-below-zero, None-lost}
 use Rattle.journal.proofs.Sums.{sum-below-add, sum-below-alike, sum-below-zero, sum-below-point, sum-below-both}
 
 -- the sum of f over free, flown, and the held and aside accounts of the AREFs below n

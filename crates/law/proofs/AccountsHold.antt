@@ -1,19 +1,14 @@
 -- Over every list of calls no megawatt is lost.
-use mathlib.Core.Path.{_≡_, _∙_}
-use mathlib.Core.List.{List}
-use Prim.Native.Nat.{ℕ, suc, _+_, _≤_, _<_}
-use native.Mathlib.Omega.{arith}
+use Prim.Native.Nat.{suc}
 use lib.ListN.{take}
-use Rattle.std.specs.shelf.Lists.{All}
 use Rattle.std.proofs.shelf.Elements.{all-take}
 use Rattle.journal.proofs.Conservation.{none-lost}
-use Rattle.law.specs.View.{View, posted-on}
 use Rattle.law.specs.Opened.{opened}
 use Rattle.law.specs.Calls.{run}
 use Rattle.law.specs.AccountsLaw.{No-megawatt-lost}
 use Rattle.law.proofs.LineByLine.{nbz-take}
 use Rattle.law.proofs.OwnSums.{four-sums}
-use Rattle.law.proofs.KeptOverRuns.{Right, right-at, days-at, accounted-right}
+use Rattle.law.proofs.KeptOverRuns.{right-at, days-at, accounted-right}
 
 pub no-megawatt-lost : No-megawatt-lost
 no-megawatt-lost R days places room cs =

@@ -1,12 +1,11 @@
 -- What holds of each place still holds after a change.
-use mathlib.Core.Path.{_≡_, refl, sym, _∙_, ap}
-use mathlib.Core.List.{List, [], _∷_, _++_, map}
-use mathlib.Core.Bool.{Bool, true, false, _&&_, _||_, not, cond}
-use Prim.Native.Nat.{ℕ, zero, suc, _+_, _-_, _≤_, _<_}
+use mathlib.Core.List.{List, [], _∷_, map}
+use mathlib.Core.Bool.{Bool, true, false, cond}
+use Prim.Native.Nat.{ℕ, _-_}
 use Rattle.std.specs.shelf.Lists.{All, kept-by}
 use Rattle.sheets.specs.Rules.{Rules}
 use Rattle.shelf.specs.Order.{put}
-use Rattle.law.specs.View.{Entry, aref-of, is, living, find, nobody}
+use Rattle.law.specs.View.{Entry, is, living, find, nobody}
 use Rattle.law.specs.Places.{change, seat}
 use Rattle.law.specs.Preemption.{gives-before, in-turn}
 use Rattle.law.specs.Calls.{earliest, sooner, first-due, is-due}

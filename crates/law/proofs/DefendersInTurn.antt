@@ -1,31 +1,19 @@
 -- The defenders in turn, and what each line of a preemption was taken from.
 use mathlib.Core.Path.{_≡_, refl, sym, _∙_, ap, subst}
-use mathlib.Core.List.{List, [], _∷_, _++_, map, List·Memᴰ, List·Memᴰ·head, List·Memᴰ·tail, List·Memᴰ·cases-cons, List·Memᴰ·append-cases}
-use mathlib.Core.Bool.{Bool, true, false, _&&_, _||_, not, cond}
+use mathlib.Core.List.{List, [], _∷_, _++_, List·Memᴰ, List·Memᴰ·head, List·Memᴰ·tail, List·Memᴰ·cases-cons}
+use mathlib.Core.Bool.{Bool, true, false, cond}
 use mathlib.Core.Logic.{_⊎_, inl, inr, _≢_}
-use Prim.Native.Nat.{ℕ, zero, suc, _+_, _-_, _≤_, _<_, min}
-use native.Mathlib.Omega.{arith}
-use lib.Dec.{eqb, leb, ltb}
+use Prim.Native.Nat.{ℕ, _+_, _-_}
 use Rattle.std.specs.shelf.Lists.{All, kept-by}
-use Rattle.std.proofs.shelf.Elements.{all-weaker, all-append, all-push}
-use Rattle.std.proofs.shelf.Lists.{append-assoc}
-use Rattle.std.proofs.shelf.Tests.{eq-eqb, ne-eqb, eqb-true, cases-eq, cases-bool, and-parts, and-from, and-right, false≢true, true≢false, cond-true, cond-false, not-from-true, not-from-false}
-use Rattle.terms.specs.declared.request.Request.{Request}
-use Rattle.terms.specs.Words.{is-pending}
+use Rattle.std.proofs.shelf.Elements.{all-weaker}
+use Rattle.std.proofs.shelf.Tests.{cases-bool, false≢true}
 use Rattle.sheets.specs.Rules.{Rules}
 use Rattle.sheets.specs.Laws.{Possible, Lawful}
 use Rattle.shelf.specs.Order.{Total, put, In-order}
 use Rattle.shelf.proofs.Lines.{stays-in-order}
-use Rattle.journal.specs.declared.line.Line.{Line}
-use Rattle.journal.specs.declared.line.LineKind.{LineKind}
-use Rattle.journal.specs.declared.line.LineKind.the-variants.{Posted, Granted, Superseded, Recalled, SetAside, Lost, Kept, Extended, Ceded, Released, Flown}
-use Rattle.journal.specs.Accounts.{Account, free, held, aside, balance, Never-below-zero}
-use Rattle.law.specs.View.{Entry, aref-of, start-of, length-of, is, living, find, count}
-use Rattle.law.specs.Preemption.{gives-before, in-turn, taken, short, supersede, give, grant, supersede-all, give-all}
-use Rattle.law.specs.Posting.{post, by-day, holding, free-on}
+use Rattle.law.specs.View.{Entry, aref-of, is, living, find}
+use Rattle.law.specs.Preemption.{gives-before, in-turn}
 use Rattle.law.proofs.AllPlaces.{all-in-turn}
-use Rattle.law.proofs.ShrinkingShortage.{Later, later-refl, later-trans, later-granted, later-given, later-give, later-supersede, shorter, Given-up, given-up-later, In-term, give-up, supersede-up}
-use Rattle.law.proofs.WrittenLines.{Writes, at-first, and-then, writes-trans, writes-post, writes-days, writes-split}
 
 pub all-mem : (P : Entry → Type 0) (es : List Entry) (x : Entry) → All P es → List·Memᴰ x es → P x
 all-mem P [] x h m = elim m [ ]

@@ -1,15 +1,15 @@
 -- Every call keeps the book whole.
-use mathlib.Core.Path.{_≡_, refl, sym, _∙_, ap, subst}
-use mathlib.Core.List.{List, [], _∷_, _++_, map}
-use mathlib.Core.Bool.{Bool, true, false, _&&_, _||_, not, cond}
+use mathlib.Core.Path.{_≡_, refl, ap}
+use mathlib.Core.List.{List, [], _∷_, map}
+use mathlib.Core.Bool.{Bool, true, false, _||_, not, cond}
 use mathlib.Core.Logic.{_⊎_, inl, inr}
-use Prim.Native.Nat.{ℕ, zero, suc, _+_, _-_, _≤_, _<_, min, max}
+use Prim.Native.Nat.{ℕ, _-_, _≤_, _<_}
 use native.Mathlib.Omega.{arith}
-use lib.Dec.{eqb, leb, ltb}
-use lib.ListN.{length, replicate}
+use lib.Dec.{ltb}
+use lib.ListN.{length}
 use Rattle.std.specs.shelf.Lists.{All, kept-by}
 use Rattle.std.proofs.shelf.Elements.{all-weaker}
-use Rattle.std.proofs.shelf.Tests.{eq-eqb, ne-eqb, eqb-true, cases-eq, cases-bool, and-parts, and-from, and-right, and-left, or-left, or-right, or-cases, or-parts, false≢true, cond-true, cond-false, not-true, not-false, leb-false}
+use Rattle.std.proofs.shelf.Tests.{and-parts, and-from, or-left, or-right, or-cases, false≢true, not-false, leb-false}
 use Rattle.law.specs.Calls
 use Rattle.law.specs.Places
 use Rattle.law.specs.Preemption
@@ -21,16 +21,13 @@ use Rattle.terms.specs.declared.words.State.the-variants.{Confirmed, Accepted, 
 use Rattle.terms.specs.Words.{is-pending, is-confirmed, is-challenged, is-gone}
 use Rattle.sheets.specs.Rules.{Rules}
 use Rattle.journal.specs.declared.line.Line.{Line}
-use Rattle.journal.specs.Accounts.{Account, held, aside, balance}
-use Rattle.law.specs.View.{Entry, View, aref-of, start-of, length-of, is, living, find, count, nobody}
-use Rattle.law.specs.Calls.{Call, submit, confirm, withdraw, match, decline, settle, Made, refused, makes, Answer, makes-of, written, step, run, new-top}
+use Rattle.law.specs.View.{Entry, View, aref-of, living, find, count}
+use Rattle.law.specs.Calls.{Call, submit, confirm, withdraw, match, decline, settle, Made, refused, makes, Answer, makes-of, written, step, new-top}
 use Rattle.law.specs.Places.{some}
-use Rattle.law.specs.Opened.{opened}
-use Rattle.law.specs.Posting.{by-day}
-use Rattle.law.proofs.Finds.{Tame, find-count, count-none, all-found}
-use Rattle.law.proofs.AllPlaces.{all-find, all-kept, all-in-turn, all-due}
-use Rattle.law.proofs.HoldersInPlaces.{Whole, Within, Apart, Holding}
-use Rattle.law.proofs.LaterCallsKeep.{Found, found-by, none-false, whole-confirm, whole-let-go, whole-flew, whole-declined, whole-matched}
+use Rattle.law.proofs.Finds.{Tame, count-none, all-found}
+use Rattle.law.proofs.AllPlaces.{all-kept, all-in-turn, all-due}
+use Rattle.law.proofs.HoldersInPlaces.{Whole, Within, Apart}
+use Rattle.law.proofs.LaterCallsKeep.{Found, found-by, whole-confirm, whole-let-go, whole-flew, whole-declined, whole-matched}
 use Rattle.law.proofs.SubmitKeeps.{Hold⁺, Side⁺, fit-preempt, whole-granted, whole-preempted, tame-after, pr}
 use Rattle.law.proofs.Holders.{Supp, supp-into}
 

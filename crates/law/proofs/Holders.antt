@@ -1,15 +1,15 @@
 -- Where MW may stand: postings keep to it.
-use mathlib.Core.Path.{_≡_, refl, sym, _∙_, ap, subst}
+use mathlib.Core.Path.{_≡_, sym, subst}
 use mathlib.Core.List.{List, [], _∷_, _++_}
-use mathlib.Core.Bool.{Bool, true, false, _&&_, _||_, not, cond}
+use mathlib.Core.Bool.{Bool, true, false, _&&_, cond}
 use mathlib.Core.Logic.{_⊎_, inl, inr}
-use Prim.Native.Nat.{ℕ, zero, suc, _+_, _-_, _≤_, _<_, min}
+use Prim.Native.Nat.{ℕ, zero, suc, _+_, _-_, _≤_, _<_}
 use native.Mathlib.Omega.{arith}
-use lib.Dec.{eqb, leb, ltb}
-use Rattle.std.proofs.shelf.Tests.{eq-eqb, ne-eqb, eqb-true, eqb-false, cases-eq, cases-lt, cases-bool, and-parts}
+use lib.Dec.{eqb}
+use Rattle.std.proofs.shelf.Tests.{eqb-true, cases-eq, cases-lt, cases-bool, and-parts}
 use Rattle.journal.specs.declared.line.Line.{Line}
 use Rattle.journal.specs.declared.line.LineKind.{LineKind}
-use Rattle.journal.specs.Accounts.{Account, outside, free, flown, held, aside, sort, same, from, to, source, balance, Never-below-zero}
+use Rattle.journal.specs.Accounts.{Account, outside, free, flown, held, aside, sort, same, from, to, balance, Never-below-zero}
 use Rattle.journal.proofs.Conservation.{never-overdrawn}
 use Rattle.law.specs.Posting.{post, by-day, holding}
 use Rattle.law.proofs.SoundLines.{nbz-push, takes-le, same-is}

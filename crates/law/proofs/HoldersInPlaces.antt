@@ -1,33 +1,21 @@
 -- Whoever holds MW stands in the places, and holds them in its term; what is set aside is set aside of a challenged record for its challenger.
 use mathlib.Core.Path.{_≡_, refl, sym, _∙_, ap, subst}
-use mathlib.Core.List.{List, [], _∷_, _++_, map}
-use mathlib.Core.Bool.{Bool, true, false, _&&_, _||_, not, cond}
+use mathlib.Core.List.{List, map}
+use mathlib.Core.Bool.{Bool, true, false, cond}
 use mathlib.Core.Logic.{_⊎_, inl, inr}
-use Prim.Native.Nat.{ℕ, zero, suc, _+_, _-_, _≤_, _<_, min, max}
-use native.Mathlib.Omega.{arith}
-use lib.Dec.{eqb, leb, ltb}
-use lib.ListN.{length, replicate}
-use Rattle.std.specs.shelf.Lists.{All}
-use Rattle.std.proofs.shelf.Tests.{eq-eqb, ne-eqb, eqb-true, eqb-false, cases-eq, cases-lt, cases-bool, and-parts, and-from, and-right, and-left, or-parts, or-left, or-right, false≢true, true≢false, cond-true, cond-false, not-true, not-false, leb-false, leb-true, ltb-true}
-use Rattle.terms.specs.declared.request.Request.{Request}
+use Prim.Native.Nat.{ℕ, _+_, _-_, _≤_, _<_}
+use lib.Dec.{eqb}
+use Rattle.std.proofs.shelf.Tests.{eq-eqb, ne-eqb, eqb-true, cases-eq, cases-bool, and-parts, and-from, and-right, false≢true, cond-true, cond-false}
 use Rattle.terms.specs.declared.words.State.{State}
 use Rattle.terms.specs.declared.words.State.the-variants.{Confirmed, Accepted, Offered, Competing, Challenged, Gone}
-use Rattle.terms.specs.Words.{is-pending, is-confirmed, is-challenged, is-gone, is-competing}
-use Rattle.sheets.specs.Rules.{Rules}
-use Rattle.sheets.specs.Laws.{Lawful}
+use Rattle.terms.specs.Words.{is-pending, is-confirmed, is-challenged, is-competing}
 use Rattle.journal.specs.declared.line.Line.{Line}
-use Rattle.journal.specs.declared.line.LineKind.{LineKind}
-use Rattle.journal.specs.declared.line.LineKind.the-variants.{Posted, Granted, Superseded, Recalled, SetAside, Lost, Kept, Extended, Ceded, Released, Flown}
-use Rattle.journal.specs.Accounts.{Account, outside, free, flown, held, aside, sort, same, from, to, balance, Never-below-zero}
-use Rattle.law.specs.View.{Entry, View, aref-of, start-of, length-of, is, living, find, count, nobody}
-use Rattle.law.specs.Calls.{Made, refused, makes, release, fly, lose, keep, extend}
-use Rattle.law.specs.Places.{seat, change, some, in-state, due-at, leave}
-use Rattle.law.specs.Posting.{post, by-day, each-day, holding, free-on}
-use Rattle.law.specs.Preemption.{short, grant, empty}
-use Rattle.law.proofs.PostingEffects.{from-post, less-post}
-use Rattle.law.proofs.Holders.{Supp, supp-post, supp-into, days-ind, days-each, nbz-post}
-use Rattle.law.proofs.Finds.{Tame, find-map, find-aref, count-map, find-count, find-seat, find-seat-other, count-seat}
-use Rattle.law.proofs.ShrinkingShortage.{each-true}
+use Rattle.journal.specs.Accounts.{aside, balance}
+use Rattle.law.specs.View.{Entry, aref-of, start-of, length-of, is, living, find, count}
+use Rattle.law.specs.Places.{change}
+use Rattle.law.specs.Posting.{holding}
+use Rattle.law.proofs.Holders.{Supp, supp-into}
+use Rattle.law.proofs.Finds.{Tame, find-map, find-aref}
 
 abbrev pub Holding : Entry → ℕ → Type 0
 Holding e k = (living e ≡ true) × (start-of e ≤ k) × (k < start-of e + length-of e)

@@ -1,18 +1,18 @@
 -- What every call keeps of a book, all together, and so every list of calls.
 use mathlib.Core.Path.{_≡_, refl, sym, _∙_, ap, subst}
 use mathlib.Core.Bool.{true, false}
-use mathlib.Core.List.{List, [], _∷_, _++_}
-use Prim.Native.Nat.{ℕ, suc, _≤_, _<_}
+use mathlib.Core.List.{List, [], _∷_}
+use Prim.Native.Nat.{ℕ, _≤_}
 use native.Mathlib.Omega.{arith}
 use lib.ListN.{length}
 use Rattle.std.specs.shelf.Lists.{All}
 use Rattle.std.proofs.shelf.Tests.{false≢true}
 use Rattle.terms.specs.Days.{Days}
 use Rattle.sheets.specs.Rules.{Rules}
-use Rattle.journal.specs.Accounts.{held, aside, balance}
+use Rattle.journal.specs.Accounts.{held, aside}
 use Rattle.law.specs.View.{View, nobody, posted-on}
 use Rattle.law.specs.Keeps.{Kept, Termed}
-use Rattle.law.specs.Opened.{postings, opened}
+use Rattle.law.specs.Opened.{opened}
 use Rattle.law.specs.Calls.{Call, step, run}
 use Rattle.law.specs.TurnLaw.{Is-checked}
 use Rattle.law.specs.KeepsLaw.{Every-call-keeps}

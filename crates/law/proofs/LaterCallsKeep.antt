@@ -1,35 +1,35 @@
 -- The later calls keep the book whole.
 use mathlib.Core.Path.{_≡_, refl, sym, _∙_, ap, subst}
-use mathlib.Core.List.{List, [], _∷_, _++_, map}
-use mathlib.Core.Bool.{Bool, true, false, _&&_, _||_, not, cond}
+use mathlib.Core.List.{List, [], _∷_}
+use mathlib.Core.Bool.{Bool, true, false, not, cond}
 use mathlib.Core.Logic.{_⊎_, inl, inr}
-use Prim.Native.Nat.{ℕ, zero, suc, _+_, _-_, _≤_, _<_, min, max}
+use Prim.Native.Nat.{ℕ, _+_, _-_, _≤_, _<_, max}
 use native.Mathlib.Omega.{arith}
-use lib.Dec.{eqb, leb, ltb}
+use lib.Dec.{eqb}
 use Rattle.std.specs.shelf.Lists.{All}
-use Rattle.std.proofs.shelf.Tests.{eq-eqb, ne-eqb, eqb-true, eqb-false, cases-eq, cases-lt, cases-bool, and-parts, and-from, or-parts, false≢true, cond-true, cond-false, not-true, not-false}
+use Rattle.std.proofs.shelf.Tests.{eqb-true, cases-lt, and-parts, or-parts, false≢true}
 use Rattle.law.specs.Calls
 use Rattle.law.specs.Places
 use Rattle.terms.specs.declared.request.Request.{Request}
 use Rattle.terms.specs.declared.words.State.{State}
-use Rattle.terms.specs.declared.words.State.the-variants.{Confirmed, Accepted, Offered, Competing, Challenged, Gone}
+use Rattle.terms.specs.declared.words.State.the-variants.{Confirmed, Offered, Gone}
 use Rattle.terms.specs.Words.{is-pending, is-confirmed, is-challenged, is-gone, is-competing}
 use Rattle.sheets.specs.Rules.{Rules}
 use Rattle.sheets.specs.Raised.{raised}
 use Rattle.journal.specs.declared.line.Line.{Line}
 use Rattle.journal.specs.declared.line.LineKind.the-variants.{Released, Flown, Lost, Kept, Extended, Ceded}
-use Rattle.journal.specs.Accounts.{Account, outside, free, flown, held, aside, sort, same, from, to, balance, Never-below-zero}
-use Rattle.law.specs.View.{Entry, View, aref-of, start-of, length-of, is, living, find, count, nobody}
+use Rattle.journal.specs.Accounts.{held, aside, balance, Never-below-zero}
+use Rattle.law.specs.View.{Entry, aref-of, start-of, length-of, is, living, find}
 use Rattle.law.specs.Places.{change, some, in-state, due-at, leave}
-use Rattle.law.specs.Posting.{post, by-day, each-day, holding, free-on}
+use Rattle.law.specs.Posting.{by-day, holding}
 use Rattle.law.specs.Calls.{release, fly, lose, keep, extend}
 use Rattle.law.specs.Preemption.{empty}
 use Rattle.law.proofs.PostingEffects.{from-post, less-post}
-use Rattle.law.proofs.Holders.{Supp, supp-post, supp-into, days-ind, days-each, nbz-post}
-use Rattle.law.proofs.Finds.{Tame, find-aref, count-map}
+use Rattle.law.proofs.Holders.{Supp, supp-post, supp-into, days-ind, days-each}
+use Rattle.law.proofs.Finds.{find-aref, count-map}
 use Rattle.law.proofs.ShrinkingShortage.{each-true}
 use Rattle.law.proofs.AllPlaces.{all-find}
-use Rattle.law.proofs.HoldersInPlaces.{Whole, Within, Apart, Holding, Siding, Facing, supp-change, tame-change, plain, not-competing}
+use Rattle.law.proofs.HoldersInPlaces.{Whole, Within, Apart, Holding, supp-change, tame-change, plain, not-competing}
 
 -- e is the living record of its AREF
 abbrev pub Found : List Entry → Entry → Type 0

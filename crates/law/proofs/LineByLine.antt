@@ -1,27 +1,22 @@
 -- Line by line, and which calls take.
-use mathlib.Core.Path.{_≡_, refl, sym, _∙_, ap, subst}
-use mathlib.Core.List.{List, [], _∷_, _++_}
+use mathlib.Core.Path.{_≡_, refl, sym, _∙_}
+use mathlib.Core.List.{List}
 use mathlib.Core.Bool.{Bool, true, false}
 use mathlib.Core.Logic.{_⊎_, inl, inr}
-use Prim.Native.Nat.{ℕ, suc, _≤_, _<_, min}
+use Prim.Native.Nat.{ℕ, _≤_, _<_}
 use native.Mathlib.Omega.{arith}
 use lib.ListN.{take, length}
 use Rattle.std.proofs.shelf.Lists.{take-take, take-all, length-take}
-use Rattle.std.proofs.shelf.Elements.{all-take}
 use Rattle.std.proofs.shelf.Tests.{cases-lt, false≢true}
 use Rattle.journal.specs.declared.line.Line.{Line}
 use Rattle.journal.specs.declared.line.LineKind.{LineKind}
 use Rattle.journal.specs.declared.line.LineKind.the-variants.{Posted, Granted, Superseded, Recalled, SetAside, Lost, Kept, Extended, Ceded, Released, Flown}
-use Rattle.journal.specs.Accounts.{Account, sort, into, out-of, Never-below-zero}
-use Rattle.journal.proofs.Conservation.{none-lost}
-use Rattle.law.specs.Calls.{Call, submit, confirm, withdraw, match, decline, settle, run, step}
+use Rattle.journal.specs.Accounts.{into, out-of, Never-below-zero}
+use Rattle.law.specs.Calls.{run}
 use Rattle.journal.specs.Kinds.{gives-way}
 use Rattle.law.specs.Opened.{opened}
 use Rattle.law.specs.TurnLaw.{Only-submits-take, is-submit}
-use Rattle.law.specs.View.{posted-on}
-use Rattle.law.proofs.KeptOverRuns.{Right, right-at}
-use Rattle.law.proofs.SoundSteps.{Sound}
-use Rattle.law.proofs.WrittenLines.{Writes, writes-split}
+use Rattle.law.proofs.WrittenLines.{writes-split}
 use Rattle.law.proofs.LinesOfCalls.{Sane, Okay, subject, pays-step}
 
 pub nbz-take : (n : ℕ) (ls : List Line) → Never-below-zero ls → Never-below-zero (take n ls)

@@ -1,12 +1,10 @@
 -- Each call writes paid lines, and of the lines about matches only its own.
-use mathlib.Core.Path.{_≡_, refl, sym, _∙_, ap, subst}
-use mathlib.Core.List.{List, [], _∷_, _++_, map}
-use mathlib.Core.Bool.{Bool, true, false, _&&_, _||_, not, cond}
-use mathlib.Core.Logic.{_⊎_, inl, inr}
-use Prim.Native.Nat.{ℕ, zero, suc, _+_, _-_, _≤_, _<_, min}
+use mathlib.Core.Path.{_≡_, refl}
+use mathlib.Core.List.{List, [], _∷_}
+use mathlib.Core.Bool.{Bool, true, false, cond}
+use Prim.Native.Nat.{ℕ, _-_, _≤_, _<_, min}
 use native.Mathlib.Omega.{arith}
-use lib.Dec.{eqb, leb, ltb}
-use Rattle.std.proofs.shelf.Tests.{eq-eqb, ne-eqb, eqb-true, cases-bool, cases-eq, and-parts, and-left, and-right, false≢true, leb-false, cases-lt}
+use Rattle.std.proofs.shelf.Tests.{leb-false}
 use Rattle.law.specs.Calls
 use Rattle.law.specs.Places
 use Rattle.law.specs.Preemption
@@ -19,19 +17,15 @@ use Rattle.sheets.specs.Rules.{Rules}
 use Rattle.journal.specs.declared.line.Line.{Line}
 use Rattle.journal.specs.declared.line.LineKind.{LineKind}
 use Rattle.journal.specs.declared.line.LineKind.the-variants.{Posted, Granted, Superseded, Recalled, SetAside, Lost, Kept, Extended, Ceded, Released, Flown}
-use Rattle.journal.specs.Accounts.{Account, outside, free, flown, held, aside, sort, same, from, to, source, target, brings, takes, into, out-of, balance, Never-below-zero}
-use Rattle.journal.proofs.Conservation.{never-overdrawn}
+use Rattle.journal.specs.Accounts.{aside, from, source, balance}
 use Rattle.law.specs.Preemption.{wanted, grant, short, meets-shortage, supersede, give, supersede-all, give-all}
 use Rattle.law.specs.View.{Entry, View, aref-of, start-of, length-of, find}
-use Rattle.law.specs.Calls.{Call, submit, confirm, withdraw, match, decline, settle, Made, refused, makes, release, fly, lose, keep, extend, makes-of, step}
+use Rattle.law.specs.Calls.{Call, submit, confirm, withdraw, match, decline, settle, Made, makes, release, fly, lose, keep, extend, makes-of, step}
 use Rattle.law.specs.Posting.{post, by-day, holding, free-on}
-use Rattle.law.specs.MatchLaw.{noted}
 use Rattle.law.specs.TurnLaw.{is-submit}
-use Rattle.law.proofs.SoundLines.{nbz-push, takes-le, cond-never, same-is}
-use Rattle.law.proofs.PostingEffects.{balance-push}
 use Rattle.law.proofs.Holders.{days-ind}
-use Rattle.law.proofs.WrittenLines.{Writes, at-first, and-then, writes-trans, writes-post}
-use Rattle.law.proofs.EveryCallKeeps.{Holds, holds, holds-stop, holds-if, holds-written, holds-map, refuses}
+use Rattle.law.proofs.WrittenLines.{Writes, at-first, writes-trans, writes-post}
+use Rattle.law.proofs.EveryCallKeeps.{Holds, holds, holds-stop, holds-if, holds-written, refuses}
 
 -- q says whether the call is a submit, n is the highest AREF before it, x the AREF that it is about
 abbrev pub Okay : Bool → ℕ → ℕ → LineKind → ℕ → ℕ → Type 0

@@ -1,22 +1,20 @@
 -- What became of a match, call by call.
 use mathlib.Core.Path.{_≡_, refl, sym, _∙_, ap, subst}
-use mathlib.Core.List.{List, [], _∷_, _++_, map}
-use mathlib.Core.Bool.{Bool, true, false, _&&_, _||_, not, cond}
+use mathlib.Core.List.{List, [], _∷_}
+use mathlib.Core.Bool.{Bool, true, false, _&&_, not, cond}
 use mathlib.Core.Logic.{_⊎_, inl, inr}
-use Prim.Native.Nat.{ℕ, zero, suc, _+_, _-_, _*_, _≤_, _<_, min, max}
+use Prim.Native.Nat.{ℕ, suc, _+_, _-_, _*_, _≤_, _<_, max}
 use native.Mathlib.Omega.{arith}
-use lib.Dec.{eqb, leb, ltb}
+use lib.Dec.{eqb, ltb}
 use lib.ListN.{length}
 use Rattle.std.specs.shelf.Lists.{All}
 use Rattle.std.proofs.shelf.Elements.{all-weaker}
-use Rattle.std.proofs.shelf.Tests.{eq-eqb, ne-eqb, eqb-true, cases-bool, cases-eq, and-parts, and-left, and-right, and-from, false≢true, true≢false, leb-false, cond-true, cond-false, not-false, and-cases, ltb-false}
+use Rattle.std.proofs.shelf.Tests.{eqb-true, cases-eq, and-parts, false≢true, leb-false, cond-true, cond-false, not-false, and-cases, ltb-false}
 use Rattle.law.specs.Calls
 use Rattle.law.specs.Places
 use Rattle.law.specs.Posting
 use Rattle.law.specs.Preemption
-use Rattle.terms.specs.Days.{Days}
 use Rattle.terms.specs.declared.request.Request.{Request}
-use Rattle.terms.specs.declared.request.Standing.{Standing}
 use Rattle.terms.specs.declared.refusal.Refusal.the-variants.{NothingDue}
 use Rattle.terms.specs.declared.words.State.{State}
 use Rattle.terms.specs.declared.words.State.the-variants.{Confirmed, Accepted, Offered, Competing, Challenged, Gone}
@@ -25,28 +23,25 @@ use Rattle.sheets.specs.Rules.{Rules}
 use Rattle.sheets.specs.Laws.{Possible, Lawful}
 use Rattle.sheets.specs.Raised.{raised, with-raised-terms}
 use Rattle.journal.specs.declared.line.Line.{Line}
-use Rattle.journal.specs.Accounts.{Account, held, aside, balance, Never-below-zero}
-use Rattle.law.specs.View.{Entry, View, aref-of, start-of, length-of, is, living, find, count, posted-on}
-use Rattle.law.specs.Calls.{Call, submit, confirm, withdraw, match, decline, settle, Made, refused, makes, lose, keep, extend, makes-of, step, run, written, minute-of, new-top, is-due}
+use Rattle.journal.specs.Accounts.{aside, balance, Never-below-zero}
+use Rattle.law.specs.View.{Entry, View, aref-of, start-of, length-of, is, living, find, count}
+use Rattle.law.specs.Calls.{Call, submit, confirm, withdraw, match, decline, settle, Made, makes, lose, keep, extend, makes-of, step, run, minute-of, is-due}
 use Rattle.law.specs.Places.{seat, change, some, in-state, due-at, leave}
 use Rattle.law.specs.Posting.{by-day}
-use Rattle.law.specs.Opened.{opened}
 use Rattle.law.specs.Keeps.{Termed}
 use Rattle.law.specs.TurnLaw.{Is-checked, is-submit}
-use Rattle.law.specs.MatchLaw.{noted, comes-back, goes-over, Wholly-aside, Wholly-kept, Wholly-lost, Came-back, Went-over, One-fate, Only-one-fate}
-use Rattle.law.proofs.Finds.{all-found, Tame, find-map, find-aref, find-count, find-seat, find-seat-other, count-none}
+use Rattle.law.specs.MatchLaw.{noted, comes-back, goes-over, Wholly-aside, Wholly-kept, Wholly-lost, Came-back, Went-over}
+use Rattle.law.proofs.Finds.{all-found, find-map, find-aref, find-count, find-seat-other, count-none}
 use Rattle.law.proofs.AllPlaces.{all-find, all-due}
-use Rattle.law.proofs.Holders.{Supp}
 use Rattle.law.proofs.DefendersInTurn.{find-in}
-use Rattle.law.proofs.HoldersInPlaces.{Whole, Within, Apart, Holding, tame-change, is-find, is-found, not-both, not-competing}
-use Rattle.law.proofs.LaterCallsKeep.{Found, found-by, none-false, supp-lost, lost-zero, kept-zero}
+use Rattle.law.proofs.HoldersInPlaces.{tame-change, is-find, is-found, not-both, not-competing}
+use Rattle.law.proofs.LaterCallsKeep.{Found, found-by, none-false, lost-zero, kept-zero}
 use Rattle.law.proofs.SubmitKeeps.{some-in}
-use Rattle.law.proofs.EveryCallKeeps.{Holds, holds, holds-stop, holds-if, holds-written, holds-map, holds-and, refuses, supp-preempt, defends-lives, top-grows}
-use Rattle.law.proofs.SoundSteps.{Sound}
-use Rattle.law.proofs.KeptOverRuns.{Right, right-step, right-run, right-at}
+use Rattle.law.proofs.EveryCallKeeps.{Holds, holds, holds-stop, holds-if, holds-written, holds-map, holds-and, refuses, top-grows}
+use Rattle.law.proofs.KeptOverRuns.{Right, right-step}
 use Rattle.law.proofs.WrittenLines.{Writes}
 use Rattle.law.proofs.Terms.{found-possible, terms-step, days-stay}
-use Rattle.law.proofs.LinesOfCalls.{Sane, subject, Pays, pays-made, pays-step}
+use Rattle.law.proofs.LinesOfCalls.{Sane, subject, pays-made, pays-step}
 use Rattle.law.proofs.QuietMatches.{quiet, lost-tally, kept-tally, extend-tally}
 
 find-other : (x : ℕ) (f : Entry → Entry) → ((e : Entry) → is x e ≡ true → aref-of (f e) ≡ x) → (es : List Entry) (c : ℕ) → living (find c es) ≡ true → (x ≡ c → ⊥) → find c (change x f es) ≡ find c es

@@ -1,40 +1,36 @@
 -- A match begins.
 use mathlib.Core.Path.{_≡_, refl, sym, _∙_, ap, subst}
-use mathlib.Core.List.{List, [], _∷_, _++_, map}
-use mathlib.Core.Bool.{Bool, true, false, _&&_, _||_, not, cond}
+use mathlib.Core.List.{List, map}
+use mathlib.Core.Bool.{Bool, true, false, not, cond}
 use mathlib.Core.Logic.{_⊎_, inl, inr}
-use Prim.Native.Nat.{ℕ, zero, suc, _+_, _-_, _≤_, _<_}
+use Prim.Native.Nat.{ℕ, suc, _-_, _<_}
 use native.Mathlib.Omega.{arith}
-use lib.Dec.{eqb, leb, ltb}
 use Rattle.std.specs.shelf.Lists.{All}
-use Rattle.std.proofs.shelf.Tests.{and-parts, false≢true, leb-false, not-false, cond-true}
+use Rattle.std.proofs.shelf.Tests.{and-parts, false≢true, leb-false, not-false}
 use Rattle.law.specs.Calls
 use Rattle.law.specs.Places
 use Rattle.law.specs.Preemption
 use Rattle.terms.specs.declared.request.Request.{Request}
-use Rattle.terms.specs.declared.request.Standing.{Standing}
 use Rattle.terms.specs.declared.words.State.{State}
-use Rattle.terms.specs.declared.words.State.the-variants.{Confirmed, Accepted, Offered, Competing, Challenged, Gone}
+use Rattle.terms.specs.declared.words.State.the-variants.{Confirmed, Accepted, Offered, Competing, Challenged}
 use Rattle.terms.specs.Words.{is-challenged, is-gone, is-competing}
 use Rattle.sheets.specs.Rules.{Rules}
 use Rattle.sheets.specs.Laws.{Possible, Lawful}
 use Rattle.journal.specs.declared.line.Line.{Line}
 use Rattle.journal.specs.Accounts.{aside, balance}
-use Rattle.law.specs.View.{Entry, View, aref-of, living, find, count, posted-on}
-use Rattle.law.specs.Calls.{Call, submit, step, run}
-use Rattle.law.specs.Places.{seat, some, new-record, in-state}
+use Rattle.law.specs.View.{Entry, View, living, find, count, posted-on}
+use Rattle.law.specs.Calls.{submit, step, run}
+use Rattle.law.specs.Places.{seat, some, new-record}
 use Rattle.law.specs.Posting.{by-day}
 use Rattle.law.specs.Opened.{opened}
 use Rattle.law.specs.Keeps.{Termed}
-use Rattle.law.specs.MatchLaw.{noted, comes-back, goes-over, Wholly-aside, Wholly-kept, Wholly-lost, One-fate, Only-one-fate}
+use Rattle.law.specs.MatchLaw.{comes-back, goes-over, One-fate, Only-one-fate}
 use Rattle.law.proofs.Finds.{find-map, find-count, find-seat, find-seat-other, count-none, count-map}
 use Rattle.law.proofs.AllPlaces.{all-find}
 use Rattle.law.proofs.DefendersInTurn.{find-in}
-use Rattle.law.proofs.HoldersInPlaces.{Whole, Within, Apart}
 use Rattle.law.proofs.LaterCallsKeep.{none-false}
 use Rattle.law.proofs.SubmitKeeps.{Side⁺, some-in, whole-granted, tame-after, ch-after, g, pr}
 use Rattle.law.proofs.EveryCallKeeps.{Holds, holds, holds-stop, holds-if, holds-written, some-map, supp-preempt}
-use Rattle.law.proofs.SoundSteps.{Sound}
 use Rattle.law.proofs.KeptOverRuns.{Right, right-step, right-at, terms-at}
 use Rattle.law.proofs.Terms.{found-possible, checked-possible, terms-step, days-stay}
 use Rattle.law.proofs.LinesOfCalls.{pays-step}

@@ -2,14 +2,14 @@
 use mathlib.Core.Path.{_≡_}
 use mathlib.Core.Bool.{true, false}
 use mathlib.Core.List.{List}
-use Prim.Native.Nat.{ℕ, zero, suc, _+_, _≤_, _<_}
+use Prim.Native.Nat.{ℕ, zero, suc, _≤_, _<_}
 use native.Mathlib.Omega.{arith}
 use lib.ListN.{length, replicate}
 use Rattle.std.specs.shelf.Lists.{All}
 use Rattle.std.proofs.shelf.Tests.{false≢true}
 use Rattle.terms.specs.Days.{Days}
 use Rattle.journal.specs.Accounts.{Account, held, aside, sort, balance}
-use Rattle.law.specs.View.{View, nobody, living, posted-on}
+use Rattle.law.specs.View.{nobody, posted-on}
 use Rattle.law.specs.Keeps.{Kept, Termed, Accepted-by}
 use Rattle.law.specs.Opened.{postings, opened}
 use Rattle.law.proofs.Finds.{count-nobody}

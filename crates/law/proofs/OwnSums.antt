@@ -3,12 +3,12 @@ use mathlib.Core.Path.{_≡_, refl, sym, _∙_, ap}
 use mathlib.Core.List.{List, [], _∷_}
 use mathlib.Core.Bool.{Bool, true, false, _&&_, cond}
 use mathlib.Core.Logic.{_⊎_, inl, inr}
-use Prim.Native.Nat.{ℕ, zero, suc, _+_, _*_, _≤_, _<_}
+use Prim.Native.Nat.{ℕ, suc, _+_, _*_, _≤_, _<_}
 use native.Mathlib.Omega.{arith}
 use lib.Dec.{eqb}
 use Rattle.std.specs.shelf.Lists.{All}
 use Rattle.std.proofs.shelf.Elements.{all-weaker}
-use Rattle.std.proofs.shelf.Tests.{eq-eqb, ne-eqb, cases-eq, cases-lt, cases-bool, cond-true, cond-false}
+use Rattle.std.proofs.shelf.Tests.{eq-eqb, ne-eqb, cases-eq, cases-lt, cases-bool, cond-false}
 use Rattle.journal.specs.declared.line.Line.{Line}
 use Rattle.journal.specs.Accounts.{held, aside, balance, brought, Never-below-zero, Names-below, sum-below, held-below, aside-below}
 use Rattle.journal.proofs.Sums.{sum-below-add, sum-below-alike, sum-below-zero, sum-below-point, sum-below-only, some-below}

@@ -1,19 +1,19 @@
 -- What one posting does to each account.
-use mathlib.Core.Path.{_≡_, refl, sym, _∙_, ap}
+use mathlib.Core.Path.{_≡_, refl}
 use mathlib.Core.List.{List, [], _∷_, _++_}
-use mathlib.Core.Bool.{Bool, true, false, _&&_, _||_, not, cond}
+use mathlib.Core.Bool.{Bool, true, false, _&&_, cond}
 use mathlib.Core.Logic.{_⊎_, inl, inr}
-use Prim.Native.Nat.{ℕ, zero, suc, _+_, _-_, _≤_, _<_, min}
+use Prim.Native.Nat.{ℕ, _+_, _-_, _≤_, _<_}
 use native.Mathlib.Omega.{arith}
-use lib.Dec.{eqb, leb, ltb}
-use Rattle.std.proofs.shelf.Tests.{eq-eqb, ne-eqb, eqb-true, eqb-false, cases-eq, cases-bool, and-parts}
+use lib.Dec.{eqb}
+use Rattle.std.proofs.shelf.Tests.{eq-eqb, ne-eqb, eqb-true, cases-bool}
 use Rattle.journal.specs.declared.line.Line.{Line}
 use Rattle.journal.specs.declared.line.LineKind.{LineKind}
-use Rattle.journal.specs.Accounts.{Account, outside, free, flown, held, aside, sort, owner, claimant, same, from, to, source, target, brings, takes, into, out-of, balance, Never-below-zero}
+use Rattle.journal.specs.Accounts.{Account, outside, free, flown, held, aside, sort, same, from, to, takes, into, out-of, balance, Never-below-zero}
 use Rattle.journal.proofs.Conservation.{never-overdrawn}
-use Rattle.law.specs.Posting.{post, by-day}
+use Rattle.law.specs.Posting.{post}
 use Rattle.law.specs.Preemption.{taken, brings-challenger}
-use Rattle.law.proofs.SoundLines.{into-push, out-of-push, takes-le, nbz-push, same-is, cond-never}
+use Rattle.law.proofs.SoundLines.{into-push, out-of-push, takes-le, cond-never}
 
 pub same-self : (x : Account) → same x x ≡ true
 same-self outside = refl

@@ -1,29 +1,28 @@
 -- Preemption line by line.
 use mathlib.Core.Path.{_≡_, refl, sym, _∙_, ap, subst}
-use mathlib.Core.List.{List, [], _∷_, _++_, map}
-use mathlib.Core.Bool.{Bool, true, false, _&&_, _||_, not, cond}
+use mathlib.Core.List.{List, [], _∷_, _++_}
+use mathlib.Core.Bool.{Bool, true, false, _||_, cond}
 use mathlib.Core.Logic.{_⊎_, inl, inr}
-use Prim.Native.Nat.{ℕ, zero, suc, _+_, _-_, _≤_, _<_, min}
+use Prim.Native.Nat.{ℕ, _+_, _-_, _≤_, _<_, min}
 use native.Mathlib.Omega.{arith}
-use lib.Dec.{eqb, leb, ltb}
+use lib.Dec.{eqb}
 use Rattle.std.specs.shelf.Lists.{All}
-use Rattle.std.proofs.shelf.Elements.{all-weaker, all-append, all-push}
+use Rattle.std.proofs.shelf.Elements.{all-push}
 use Rattle.std.proofs.shelf.Lists.{append-assoc, append-nil}
-use Rattle.std.proofs.shelf.Tests.{eq-eqb, ne-eqb, eqb-true, eqb-false, cases-eq, cases-bool, and-parts, or-parts, cond-true, cond-false, not-true, false≢true}
+use Rattle.std.proofs.shelf.Tests.{eq-eqb, ne-eqb, eqb-false, cases-eq, or-parts, not-true, false≢true}
 use Rattle.terms.specs.declared.request.Request.{Request}
 use Rattle.terms.specs.Words.{is-pending}
 use Rattle.sheets.specs.Rules.{Rules}
-use Rattle.sheets.specs.Laws.{Lawful}
 use Rattle.journal.specs.declared.line.Line.{Line}
 use Rattle.journal.specs.declared.line.LineKind.{LineKind}
 use Rattle.journal.specs.declared.line.LineKind.the-variants.{Posted, Granted, Superseded, Recalled, SetAside, Lost, Kept, Extended, Ceded, Released, Flown}
-use Rattle.journal.specs.Accounts.{Account, free, held, aside, balance, Never-below-zero}
+use Rattle.journal.specs.Accounts.{Never-below-zero}
 use Rattle.law.specs.View.{Entry, aref-of, start-of, length-of}
-use Rattle.law.specs.Posting.{post, by-day, each-day, holding, free-on}
-use Rattle.law.specs.Preemption.{taken, short, meets-shortage, supersede, give, grant, supersede-all, give-all}
-use Rattle.law.proofs.ShrinkingShortage.{Later, later-refl, later-trans, later-granted, later-given, later-superseded, later-give, later-supersede, shorter, Given-up, given-up-later, In-term, give-up, supersede-up, each-false}
+use Rattle.law.specs.Posting.{post, by-day, holding}
+use Rattle.law.specs.Preemption.{short, meets-shortage, supersede, give, grant, supersede-all, give-all}
+use Rattle.law.proofs.ShrinkingShortage.{Later, later-refl, later-trans, later-granted, later-given, later-superseded, later-give, later-supersede, Given-up, given-up-later, In-term, give-up, supersede-up, each-false}
 use Rattle.law.proofs.Holders.{days-ind}
-use Rattle.law.proofs.WrittenLines.{Writes, at-first, and-then, writes-trans, writes-post, writes-days, writes-grows}
+use Rattle.law.proofs.WrittenLines.{Writes, at-first, writes-trans, writes-post, writes-days, writes-grows}
 
 post-is : (t : ℕ) (κ : LineKind) (a b k m : ℕ) (ls : List Line) → 0 < m → post t κ a b k m ls ≡ ls ++ record { minute = t; kind = κ; a = a; b = b; day = k; mw = m } ∷ []
 unfolding post

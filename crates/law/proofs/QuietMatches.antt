@@ -1,19 +1,19 @@
 -- Calls about others leave a match alone, and a match that is closed stays so.
 use mathlib.Core.Path.{_≡_, refl, sym, _∙_, ap, subst}
-use mathlib.Core.List.{List, [], _∷_, _++_, map}
-use mathlib.Core.Bool.{Bool, true, false, _&&_, _||_, not, cond}
+use mathlib.Core.List.{List, [], _∷_, _++_}
+use mathlib.Core.Bool.{Bool, true, false, _&&_, cond}
 use mathlib.Core.Logic.{_⊎_, inl, inr}
-use Prim.Native.Nat.{ℕ, zero, suc, _+_, _-_, _≤_, _<_, min}
+use Prim.Native.Nat.{ℕ, _+_, _-_, _≤_, _<_, min}
 use native.Mathlib.Omega.{arith}
-use lib.Dec.{eqb, leb, ltb}
+use lib.Dec.{eqb}
 use Rattle.std.specs.shelf.Lists.{All}
-use Rattle.std.proofs.shelf.Tests.{eq-eqb, ne-eqb, eqb-true, cases-bool, cases-eq, and-parts, and-left, and-right, false≢true}
+use Rattle.std.proofs.shelf.Tests.{ne-eqb, eqb-true, cases-bool, and-left, and-right}
 use Rattle.journal.specs.declared.line.Line.{Line}
 use Rattle.journal.specs.declared.line.LineKind.{LineKind}
 use Rattle.journal.specs.declared.line.LineKind.the-variants.{Posted, Granted, Superseded, Recalled, SetAside, Lost, Kept, Extended, Ceded, Released, Flown}
-use Rattle.journal.specs.Accounts.{Account, outside, free, flown, held, aside, sort, same, from, to, source, target, brings, takes, into, out-of, balance, Never-below-zero}
+use Rattle.journal.specs.Accounts.{aside, same, from, to, source, target, balance, Never-below-zero}
 use Rattle.journal.proofs.Conservation.{never-overdrawn}
-use Rattle.law.specs.Posting.{post, by-day, holding, free-on}
+use Rattle.law.specs.Posting.{post, by-day, free-on}
 use Rattle.law.specs.Calls.{lose, keep, extend}
 use Rattle.law.specs.MatchLaw.{noted, comes-back, goes-over}
 use Rattle.law.proofs.SoundLines.{nbz-push, takes-le, cond-never, same-is}

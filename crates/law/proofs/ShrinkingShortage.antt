@@ -1,26 +1,22 @@
 -- Within one submit: days get no shorter, and nobody but the challenger gets more.
-use mathlib.Core.Path.{_≡_, refl, sym, _∙_, ap, subst}
-use mathlib.Core.List.{List, [], _∷_, _++_}
-use mathlib.Core.Bool.{Bool, true, false, _&&_, _||_, not, cond}
+use mathlib.Core.Path.{_≡_, refl, subst}
+use mathlib.Core.List.{List}
+use mathlib.Core.Bool.{Bool, true, false, _&&_, _||_, cond}
 use mathlib.Core.Logic.{_⊎_, inl, inr}
 use Prim.Native.Nat.{ℕ, zero, suc, _+_, _-_, _≤_, _<_, min}
 use native.Mathlib.Omega.{arith}
 use lib.Dec.{eqb, leb, ltb}
-use Rattle.std.specs.shelf.Lists.{All}
-use Rattle.std.proofs.shelf.Elements.{all-weaker}
-use Rattle.std.proofs.shelf.Tests.{eq-eqb, ne-eqb, eqb-true, eqb-false, cases-eq, cases-lt, cases-bool, and-parts, and-cases, or-cases, cond-true, cond-false, leb-true, leb-false, le-leb, lt-ltb, not-true, not-false}
+use Rattle.std.proofs.shelf.Tests.{eq-eqb, ne-eqb, eqb-true, cases-eq, cases-lt, and-parts, and-cases, or-cases, not-false}
 use Rattle.terms.specs.declared.request.Request.{Request}
-use Rattle.terms.specs.Words.{is-pending}
 use Rattle.sheets.specs.Rules.{Rules}
 use Rattle.journal.specs.declared.line.Line.{Line}
-use Rattle.journal.specs.declared.line.LineKind.{LineKind}
-use Rattle.journal.specs.declared.line.LineKind.the-variants.{Posted, Granted, Superseded, Recalled, SetAside, Lost, Kept, Extended, Ceded, Released, Flown}
-use Rattle.journal.specs.Accounts.{Account, outside, free, flown, held, aside, sort, same, from, to, balance, Never-below-zero}
-use Rattle.law.specs.Preemption.{wanted, taken, short, meets-shortage, supersede, give, grant, brings-challenger}
+use Rattle.journal.specs.declared.line.LineKind.the-variants.{Granted, Superseded, Recalled, SetAside}
+use Rattle.journal.specs.Accounts.{free, held, Never-below-zero}
+use Rattle.law.specs.Preemption.{wanted, taken, short, meets-shortage, supersede, give}
 use Rattle.law.specs.View.{Entry, aref-of, start-of, length-of}
 use Rattle.law.specs.Posting.{post, by-day, each-day, holding, free-on}
 use Rattle.law.proofs.SoundLines.{cond-never}
-use Rattle.law.proofs.PostingEffects.{balance-post, less-post, from-post, taken-post, day-post}
+use Rattle.law.proofs.PostingEffects.{balance-post, less-post, from-post, taken-post}
 use Rattle.law.proofs.Holders.{days-ind, days-each, nbz-post}
 
 gives-out : (h h′ m s s′ k k′ mw : ℕ) (c : Bool) → h′ + m ≡ h → s′ ≡ s → k′ ≡ k + m → m ≡ min h (cond c (mw - (s + k)) 0) → 0 < cond c (mw - (s′ + k′)) 0 → h′ ≡ 0

@@ -1,23 +1,20 @@
 -- Every call writes only lines that are paid for.
-use mathlib.Core.Path.{_≡_, refl, sym, _∙_, ap}
-use mathlib.Core.List.{List, [], _∷_, _++_, map}
-use mathlib.Core.Bool.{Bool, true, false, _&&_, _||_, not, cond}
-use mathlib.Core.Logic.{_⊎_, inl, inr}
-use Prim.Native.Nat.{ℕ, zero, suc, _+_, _-_, _≤_, _<_, min}
+use mathlib.Core.List.{List, [], _∷_}
+use mathlib.Core.Bool.{Bool, true, false, cond}
+use Prim.Native.Nat.{ℕ, _-_, _<_, min}
 use native.Mathlib.Omega.{arith}
 use Rattle.std.specs.shelf.Lists.{All}
 use Rattle.terms.specs.declared.request.Request.{Request}
 use Rattle.terms.specs.Words.{is-pending}
 use Rattle.sheets.specs.Rules.{Rules}
 use Rattle.journal.specs.declared.line.Line.{Line}
-use Rattle.journal.specs.declared.line.LineKind.{LineKind}
-use Rattle.journal.specs.declared.line.LineKind.the-variants.{Posted, Granted, Superseded, Recalled, SetAside, Lost, Kept, Extended, Ceded, Released, Flown}
-use Rattle.journal.specs.Accounts.{Account, outside, free, flown, held, aside, sort, balance, from}
+use Rattle.journal.specs.declared.line.LineKind.the-variants.{Granted, Superseded, Recalled, SetAside, Lost, Kept, Extended, Ceded, Released, Flown}
+use Rattle.journal.specs.Accounts.{aside, balance}
 use Rattle.law.specs.Preemption.{wanted, grant, short, meets-shortage, supersede, give, supersede-all, give-all, defenders, preempt}
 use Rattle.law.specs.View.{Entry, View, aref-of, start-of, length-of}
 use Rattle.law.specs.Posting.{post, by-day, holding, free-on}
 use Rattle.law.specs.Calls.{release, fly, lose, keep, extend}
-use Rattle.law.proofs.SoundLines.{Fine, fine-post, fine-days, fine-wider}
+use Rattle.law.proofs.SoundLines.{Fine, fine-post, fine-days}
 
 module _ (n : ℕ) (p : ℕ → ℕ) where
   pub fine-release : (t a s d : ℕ) (ls : List Line) → a < n → Fine n p ls → Fine n p (by-day (release t a) s d ls)

@@ -1,36 +1,30 @@
 -- Every call keeps the journal fine.
-use mathlib.Core.Path.{_≡_, refl, sym, _∙_, ap}
-use mathlib.Core.List.{List, [], _∷_, _++_, map}
-use mathlib.Core.Bool.{Bool, true, false, _&&_, _||_, not, cond}
-use mathlib.Core.Logic.{_⊎_, inl, inr}
-use Prim.Native.Nat.{ℕ, zero, suc, _+_, _-_, _≤_, _<_, min, max}
+use mathlib.Core.Path.{_≡_, refl}
+use mathlib.Core.List.{List, [], _∷_, map}
+use mathlib.Core.Bool.{Bool, true, false, cond}
+use Prim.Native.Nat.{ℕ, zero, suc, _-_, _≤_, _<_}
 use native.Mathlib.Omega.{arith}
-use lib.Dec.{eqb, leb, ltb}
-use lib.ListN.{length, replicate, getD}
+use lib.Dec.{ltb}
+use lib.ListN.{length, replicate}
 use Rattle.std.specs.shelf.Lists.{All}
 use Rattle.std.proofs.shelf.Elements.{all-weaker}
-use Rattle.std.proofs.shelf.Tests.{leb-true, leb-false}
+use Rattle.std.proofs.shelf.Tests.{leb-false}
 use Rattle.law.specs.Calls
 use Rattle.law.specs.Places
 use Rattle.law.specs.Preemption
 use Rattle.terms.specs.Days.{Days}
 use Rattle.terms.specs.declared.request.Request.{Request}
 use Rattle.terms.specs.declared.refusal.Refusal.{Refusal}
-use Rattle.terms.specs.declared.refusal.Refusal.the-variants.{NothingDue}
 use Rattle.terms.specs.declared.words.State.{State}
 use Rattle.terms.specs.declared.words.State.the-variants.{Confirmed, Accepted, Offered, Competing, Challenged, Gone}
-use Rattle.terms.specs.Words.{is-pending, is-gone, is-challenged}
+use Rattle.terms.specs.Words.{is-pending, is-challenged}
 use Rattle.sheets.specs.Rules.{Rules}
-use Rattle.sheets.specs.Laws.{Lawful}
 use Rattle.journal.specs.declared.line.Line.{Line}
-use Rattle.journal.specs.Accounts.{brought, balance, aside}
-use Rattle.journal.proofs.Conservation.{none-lost}
-use Rattle.law.specs.View.{posted-on, Entry, View, aref-of, start-of, length-of, nobody, find}
+use Rattle.law.specs.View.{posted-on, Entry, View, aref-of, nobody, find}
 use Rattle.law.specs.Calls.{Call, submit, confirm, withdraw, match, decline, settle, Made, refused, makes, makes-of, new-top, written, step, run}
-use Rattle.law.specs.Places.{change}
 use Rattle.law.specs.Opened.{postings, opened}
 use Rattle.law.specs.Posting.{by-day}
-use Rattle.law.proofs.SoundLines.{Fine, fine-post, fine-days, fine-wider}
+use Rattle.law.proofs.SoundLines.{Fine, fine-wider}
 use Rattle.law.proofs.Postings.{postings-only, posting-solvent, posting-names, postings-bring}
 use Rattle.law.proofs.SoundPostings.{fine-release, fine-fly, fine-grant, fine-lose, fine-keep, fine-extend, fine-preempt}
 use Rattle.law.proofs.AllPlaces.{all-find, all-change, all-seat, all-kept, all-in-turn, all-maps, all-due}

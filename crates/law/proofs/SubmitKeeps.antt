@@ -1,14 +1,13 @@
 -- A submit keeps the book whole.
 use mathlib.Core.Path.{_≡_, refl, sym, _∙_, ap, subst}
-use mathlib.Core.List.{List, [], _∷_, _++_, map, List·Memᴰ, List·Memᴰ·cases-cons}
+use mathlib.Core.List.{List, [], _∷_, map, List·Memᴰ, List·Memᴰ·cases-cons}
 use mathlib.Core.Bool.{Bool, true, false, _&&_, _||_, not, cond}
 use mathlib.Core.Logic.{_⊎_, inl, inr}
-use Prim.Native.Nat.{ℕ, zero, suc, _+_, _-_, _≤_, _<_, min, max}
+use Prim.Native.Nat.{ℕ, _+_, _-_, _≤_, _<_, min}
 use native.Mathlib.Omega.{arith}
 use lib.Dec.{eqb, leb, ltb}
-use Rattle.std.specs.shelf.Lists.{All, kept-by}
-use Rattle.std.proofs.shelf.Elements.{all-weaker}
-use Rattle.std.proofs.shelf.Tests.{eq-eqb, ne-eqb, eqb-true, eqb-false, cases-eq, cases-lt, cases-bool, and-parts, and-from, and-left, and-right, or-parts, or-left, or-right, or-cases, false≢true, cond-true, cond-false, not-true, not-false, leb-true, ltb-true}
+use Rattle.std.specs.shelf.Lists.{All}
+use Rattle.std.proofs.shelf.Tests.{ne-eqb, eqb-true, cases-eq, cases-bool, and-parts, and-left, and-right, or-left, or-right, false≢true, cond-false, leb-true, ltb-true}
 use Rattle.law.specs.Places
 use Rattle.law.specs.Preemption
 use Rattle.terms.specs.declared.request.Request.{Request}
@@ -18,17 +17,17 @@ use Rattle.terms.specs.Words.{is-pending, is-confirmed, is-challenged, is-gone,
 use Rattle.sheets.specs.Rules.{Rules}
 use Rattle.journal.specs.declared.line.Line.{Line}
 use Rattle.journal.specs.declared.line.LineKind.the-variants.{Granted, Superseded, Recalled, SetAside}
-use Rattle.journal.specs.Accounts.{Account, outside, free, flown, held, aside, sort, same, from, to, balance, Never-below-zero}
-use Rattle.law.specs.View.{Entry, View, aref-of, start-of, length-of, is, living, find, count, nobody}
-use Rattle.law.specs.Places.{seat, change, some, in-state, due-at, leave, new-record}
-use Rattle.law.specs.Posting.{post, by-day, each-day, holding, free-on}
-use Rattle.law.specs.Preemption.{short, taken, meets-shortage, grant, supersede, give, supersede-all, give-all, empty}
+use Rattle.journal.specs.Accounts.{aside, balance}
+use Rattle.law.specs.View.{Entry, View, aref-of, start-of, length-of, is, living, find, count}
+use Rattle.law.specs.Places.{seat, some, leave, new-record}
+use Rattle.law.specs.Posting.{post, by-day, holding}
+use Rattle.law.specs.Preemption.{short, meets-shortage, grant, supersede, give, supersede-all, give-all, empty}
 use Rattle.law.proofs.Holders.{Supp, supp-post, supp-into, days-ind}
-use Rattle.law.proofs.Finds.{Tame, find-map, find-aref, count-map, count-none, count-seat, find-seat, find-seat-other, find-count}
+use Rattle.law.proofs.Finds.{Tame, find-map, find-aref, count-map, count-seat, find-seat, find-seat-other, find-count}
 use Rattle.law.proofs.ShrinkingShortage.{each-true}
 use Rattle.law.proofs.AllPlaces.{all-find}
 use Rattle.law.proofs.DefendersInTurn.{find-in}
-use Rattle.law.proofs.HoldersInPlaces.{Whole, Within, Apart, Holding, Siding, Facing, supp-map, is-find, is-found}
+use Rattle.law.proofs.HoldersInPlaces.{Whole, Within, Apart, Holding, Siding, Facing}
 use Rattle.law.proofs.LaterCallsKeep.{none-false, not-empty}
 
 abbrev Of : Request → ℕ → Type 0

@@ -1,19 +1,18 @@
 -- What was taken was taken in turn.
 use mathlib.Core.Path.{_≡_, refl, sym, _∙_, ap, subst}
-use mathlib.Core.List.{List, [], _∷_, _++_, map, List·Memᴰ, List·Memᴰ·head, List·Memᴰ·tail, List·Memᴰ·cases-cons, List·Memᴰ·append-cases, Memᴰ·append-right}
-use mathlib.Core.Bool.{Bool, true, false, _&&_, _||_, not, cond}
+use mathlib.Core.List.{List, [], _∷_, _++_, List·Memᴰ, List·Memᴰ·head, List·Memᴰ·cases-cons, List·Memᴰ·append-cases, Memᴰ·append-right}
+use mathlib.Core.Bool.{Bool, true, false, _||_, cond}
 use mathlib.Core.Logic.{_⊎_, inl, inr}
-use Prim.Native.Nat.{ℕ, zero, suc, _+_, _-_, _≤_, _<_}
+use Prim.Native.Nat.{ℕ, _+_, _-_, _≤_, _<_}
 use native.Mathlib.Omega.{arith}
-use lib.Dec.{eqb, leb, ltb}
+use lib.Dec.{eqb}
 use lib.ListN.{length}
 use Rattle.std.specs.shelf.Lists.{All, kept-by}
 use Rattle.std.proofs.shelf.Elements.{all-weaker}
 use Rattle.std.proofs.shelf.Lists.{append-assoc, append-cancel-left, append-nil, length-append}
-use Rattle.std.proofs.shelf.Tests.{cases-bool, cases-eq, and-parts, false≢true, not-from-true, eq-eqb, and-from, leb-false, not-false, or-cases}
+use Rattle.std.proofs.shelf.Tests.{and-parts, false≢true, not-from-true, eq-eqb, and-from, leb-false, or-cases}
 use Rattle.law.specs.Calls
 use Rattle.law.specs.Preemption
-use Rattle.terms.specs.Days.{Days}
 use Rattle.terms.specs.declared.request.Request.{Request}
 use Rattle.terms.specs.declared.words.State.{State}
 use Rattle.terms.specs.declared.words.State.the-variants.{Confirmed, Accepted, Offered, Competing, Challenged, Gone}
@@ -23,23 +22,21 @@ use Rattle.sheets.specs.Laws.{Possible, Lawful}
 use Rattle.journal.specs.declared.line.Line.{Line}
 use Rattle.journal.specs.declared.line.LineKind.{LineKind}
 use Rattle.journal.specs.declared.line.LineKind.the-variants.{Posted, Granted, Superseded, Recalled, SetAside, Lost, Kept, Extended, Ceded, Released, Flown}
-use Rattle.journal.specs.Accounts.{balance, Never-below-zero}
-use Rattle.law.specs.View.{Entry, View, aref-of, start-of, length-of, is, living, find, count, posted-on}
-use Rattle.law.specs.Calls.{Call, submit, step, run}
-use Rattle.law.specs.Posting.{holding, by-day}
-use Rattle.law.specs.Preemption.{short, in-turn}
+use Rattle.law.specs.View.{Entry, View, aref-of, living, find, count, posted-on}
+use Rattle.law.specs.Calls.{submit, step, run}
+use Rattle.law.specs.Posting.{holding}
+use Rattle.law.specs.Preemption.{short}
 use Rattle.law.specs.Opened.{opened}
 use Rattle.law.specs.Keeps.{Termed}
 use Rattle.law.specs.TurnLaw.{Taken-in-turn, Rightly-taken, Open-to, Earlier, Earlier-bare}
-use Rattle.law.proofs.Finds.{find-count, find-aref}
-use Rattle.law.proofs.AllPlaces.{all-kept, all-in-turn, all-find}
-use Rattle.law.proofs.ShrinkingShortage.{Later, later-trans, Given-up, shorter}
-use Rattle.law.proofs.WrittenLines.{Writes, at-first, writes-split}
+use Rattle.law.proofs.Finds.{find-aref}
+use Rattle.law.proofs.AllPlaces.{all-kept, all-find}
+use Rattle.law.proofs.ShrinkingShortage.{Later, later-trans, Given-up}
+use Rattle.law.proofs.WrittenLines.{Writes, writes-split}
 use Rattle.law.proofs.DefendersInTurn.{all-mem, Sorted, Different, sorted-in-turn, sorted-split, in-turn-in, kept-in, find-in}
 use Rattle.law.proofs.PreemptionLines.{Fact, Told, Took, Ousted, writes-grant, writes-preempt}
-use Rattle.law.proofs.HoldersInPlaces.{Whole, Holding}
-use Rattle.law.proofs.EveryCallKeeps.{Holds, holds, holds-stop, holds-if, holds-written, holds-map, refuses, defenders-stand, defends-lives}
-use Rattle.law.proofs.SoundSteps.{Sound}
+use Rattle.law.proofs.HoldersInPlaces.{Holding}
+use Rattle.law.proofs.EveryCallKeeps.{Holds, holds, holds-stop, holds-if, holds-written, holds-map, defenders-stand, defends-lives}
 use Rattle.law.proofs.KeptOverRuns.{Right, right-at, terms-at}
 use Rattle.law.proofs.Terms.{living-possible, found-possible}
 

@@ -1,14 +1,14 @@
 -- Every call keeps terms inside the posted days, of 1 to 31 days where a record lives.
-use mathlib.Core.Path.{_≡_, refl, sym, _∙_, ap, subst}
-use mathlib.Core.List.{List, [], _∷_, map}
-use mathlib.Core.Bool.{Bool, true, false, _&&_, _||_, not, cond}
+use mathlib.Core.Path.{_≡_, refl, sym, ap, subst}
+use mathlib.Core.List.{List, [], _∷_}
+use mathlib.Core.Bool.{Bool, true, false, not, cond}
 use mathlib.Core.Logic.{_⊎_, inl, inr}
-use Prim.Native.Nat.{ℕ, suc, _+_, _-_, _≤_, _<_, max}
+use Prim.Native.Nat.{ℕ, _+_, _-_, _≤_}
 use native.Mathlib.Omega.{arith}
-use lib.Dec.{leb, ltb, eqb}
+use lib.Dec.{ltb, eqb}
 use lib.ListN.{length}
 use Rattle.std.specs.shelf.Lists.{All, kept-by}
-use Rattle.std.proofs.shelf.Tests.{cases-bool, and-parts, or-parts, false≢true, leb-true, ltb-false, cond-true, cond-false}
+use Rattle.std.proofs.shelf.Tests.{cases-bool, and-parts, or-parts, false≢true, ltb-false, cond-true, cond-false}
 use Rattle.std.proofs.shelf.Ways.{tells}
 use Rattle.terms.specs.declared.request.Request.{Request}
 use Rattle.terms.specs.declared.refusal.Refusal.the-variants.{NothingDue, JournalFull}
@@ -18,7 +18,7 @@ use Rattle.terms.specs.declared.words.State.{State}
 use Rattle.terms.specs.declared.words.State.the-variants.{Confirmed, Accepted, Offered, Competing, Challenged, Gone}
 use Rattle.terms.specs.Days.{Days}
 use Rattle.terms.specs.Limits.{sold-length, sellable}
-use Rattle.terms.specs.Words.{is-pending, is-challenged, is-gone}
+use Rattle.terms.specs.Words.{is-pending, is-challenged}
 use Rattle.sheets.specs.Laws.{Possible}
 use Rattle.sheets.specs.Raised.{raised}
 use Rattle.sheets.specs.Rules.{Rules}

@@ -1,5 +1,5 @@
 -- The places of a book, and how a call changes them.
-use mathlib.Core.Bool.{Bool, true, false, _||_, cond}
+use mathlib.Core.Bool.{Bool, false, _||_, cond}
 use mathlib.Core.List.{List, [], _∷_, map}
 use Prim.Native.Nat.{ℕ, _+_}
 use Rattle.terms.specs.declared.request.Request.{Request}

@@ -1,5 +1,5 @@
 -- Postings: lines that move MW, and days gone through one by one.
-use mathlib.Core.Bool.{Bool, true, false, _&&_, cond}
+use mathlib.Core.Bool.{Bool, true, _&&_, cond}
 use mathlib.Core.List.{List, [], _∷_, _++_}
 use Prim.Native.Nat.{ℕ, zero, suc, max}
 use lib.Dec.{eqb}

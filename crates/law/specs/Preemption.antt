@@ -1,6 +1,6 @@
 -- Who gives way to a challenger, in turn, and how much.
 use mathlib.Core.Bool.{Bool, true, false, _&&_, _||_, not, cond}
-use mathlib.Core.List.{List, [], _∷_, map}
+use mathlib.Core.List.{List, [], _∷_}
 use Prim.Native.Nat.{ℕ, _+_, _-_, min}
 use lib.Dec.{eqb, leb, ltb}
 use Rattle.std.specs.shelf.Lists.{kept-by}

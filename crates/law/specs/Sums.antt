@@ -1,6 +1,6 @@
 -- The four sums of a day: by the records of a book, and by the accounts of its journal.
 use mathlib.Core.Path.{_≡_}
-use mathlib.Core.Bool.{Bool, true, false, cond}
+use mathlib.Core.Bool.{cond}
 use mathlib.Core.List.{List, [], _∷_}
 use Prim.Native.Nat.{ℕ, suc, _+_}
 use Rattle.journal.specs.declared.line.Line.{Line}

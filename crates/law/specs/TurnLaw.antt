@@ -1,7 +1,7 @@
 -- The law of turn: over every list of calls nothing is taken from anyone out of turn.
 use mathlib.Core.Path.{_≡_}
 use mathlib.Core.Bool.{Bool, true, false}
-use mathlib.Core.List.{List, [], _∷_, _++_}
+use mathlib.Core.List.{List, _∷_, _++_}
 use Prim.Native.Nat.{ℕ, _<_}
 use Rattle.std.specs.shelf.Lists.{All}
 use Rattle.terms.specs.declared.request.Request.{Request}

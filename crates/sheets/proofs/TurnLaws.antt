@@ -1,15 +1,14 @@
 -- Turn by criteria keeps the laws of turn, whatever a sheet's own criteria are.
-use mathlib.Core.Path.{_≡_, refl}
-use mathlib.Core.Bool.{Bool, true, false, _||_, _&&_, not}
+use mathlib.Core.Path.{_≡_}
+use mathlib.Core.Bool.{true, not}
 use mathlib.Core.List.{List, [], _∷_, _++_}
 use mathlib.Core.Logic.{_≢_}
-use Prim.Native.Nat.{ℕ}
 use native.Mathlib.Omega.{arith}
 use Rattle.std.proofs.shelf.Ways.{tells}
 use Rattle.terms.specs.declared.request.Standing.{Standing}
 use Rattle.terms.specs.declared.words.State.the-variants.{Confirmed}
 use Rattle.terms.specs.Words.{is-pending}
-use Rattle.sheets.specs.Turn.{Criterion, lower, higher, number-by, first-by, first-in, turn-by, later-first, aref-of, queued-of, pending-of}
+use Rattle.sheets.specs.Turn.{Criterion, lower, higher, first-in, turn-by, later-first, pending-of}
 
 pub first-in-transitive : (cs : List Criterion) (a b c : Standing) → first-in cs a b ≡ true → first-in cs b c ≡ true → first-in cs a c ≡ true
 first-in-transitive [] a b c p q = p

@@ -1,7 +1,7 @@
 -- The laws that every rule sheet keeps. They are asked only of records that can exist and of minutes that a call can
 -- have, so that what is promised of a book holds above as many sheets as possible.
 use mathlib.Core.Path.{_≡_}
-use mathlib.Core.Bool.{Bool, true, false, not}
+use mathlib.Core.Bool.{true, false, not}
 use mathlib.Core.Logic.{_≢_}
 use Prim.Native.Nat.{ℕ, _+_, _≤_}
 use Rattle.terms.specs.declared.words.Kind.the-variants.{PointToPoint}

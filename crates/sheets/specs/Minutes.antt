@@ -1,5 +1,5 @@
 -- Last minutes, included; none where there is no such minute.
-use mathlib.Core.Bool.{Bool, true, false, cond}
+use mathlib.Core.Bool.{Bool, false, cond}
 use Prim.Native.Nat.{ℕ, _-_}
 use lib.Dec.{leb}
 use Rattle.std.specs.declared.option.Option.{Option}

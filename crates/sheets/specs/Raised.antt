@@ -1,6 +1,6 @@
 -- The terms of a record that matched its challenger.
-use mathlib.Core.Bool.{Bool, true, false, cond}
-use Prim.Native.Nat.{ℕ, max}
+use mathlib.Core.Bool.{cond}
+use Prim.Native.Nat.{max}
 use lib.Dec.{ltb}
 use Rattle.terms.specs.declared.words.Product.{Product}
 use Rattle.terms.specs.declared.request.Request.{Request}

@@ -1,5 +1,5 @@
 -- The limits of what can be asked for.
-use mathlib.Core.Bool.{Bool, true, false, _&&_, _||_}
+use mathlib.Core.Bool.{Bool, _&&_, _||_}
 use Prim.Native.Nat.{ℕ}
 use lib.Dec.{leb, eqb}
 use Rattle.terms.specs.declared.request.Request.{Request}

@@ -1,5 +1,5 @@
 -- What is read off the standing of a record.
-use mathlib.Core.Bool.{Bool, true, false, _||_, not}
+use mathlib.Core.Bool.{Bool, _||_, not}
 use Rattle.terms.specs.declared.request.Standing.{Standing}
 use Rattle.terms.specs.Words.{is-pending}
 

@@ -18,7 +18,7 @@ use Rattle.journal.specs.declared.line.LineKind.the-variants.{Granted, Supersed
 use Rattle.journal.specs.Accounts.{free, held, Never-below-zero}
 use Rattle.law.specs.View.{Entry, aref-of, start-of, length-of}
 use Rattle.law.specs.Posting.{by-day, holding, free-on}
-use Rattle.law.specs.Preemption.{wanted, taken, short, meets-shortage, supersede, give, grant, supersede-all, give-all}
+use Rattle.law.specs.Preemption.{wanted, short, meets-shortage, supersede, give, grant, supersede-all, give-all}
 use Rattle.law.proofs.ShrinkingShortage.{In-term}
 use Rattle.law.proofs.DefendersInTurn.{Different}
 use Rattle.visits.specs.ClosedForm.{shortage-met, is-needed, is-superseded, superseded-on, lines-by-day, superseded-lines, given-lines}

@@ -1,4 +1,4 @@
-use mathlib.Core.Path.{_≡_, sym, _∙_}
+use mathlib.Core.Path.{sym, _∙_}
 use mathlib.Core.Logic.{inl, inr}
 use Rattle.desk.proofs.Steps.{fit-goes-on, fit-stops, fit-ends}
 use Rattle.desk.proofs.opening.postings_fit.Needs as need

@@ -1,4 +1,3 @@
-use native.Mathlib.Omega.{arith}
 use Rattle.desk.proofs.SoundProp.{sound-of}
 use Rattle.desk.proofs.memory.Desk.journal.Needs as need
 
