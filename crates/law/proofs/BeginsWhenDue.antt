@@ -33,7 +33,7 @@ use Rattle.law.proofs.ShrinkingShortage.{each-true, each-false}
 use Rattle.law.proofs.KeptOverRuns.{Right, right-at}
 use Rattle.law.proofs.HoldersInPlaces.{Holding}
 use Rattle.law.proofs.PostingEffects.{balance-post, less-post, more-post, taken-post}
-use Rattle.law.proofs.Holders.{days-ind, nbz-post}
+use Rattle.law.proofs.Holders.{days-ind, solvent-post}
 
 -- lines of one kind, a line for each day of 1 MW or more
 module _ (t : ℕ) (κ : LineKind) (a b : ℕ) (amount : ℕ → List Line → ℕ) where
@@ -236,19 +236,19 @@ module _ (t : ℕ) (r : Request) where
 
   -- a grant by day leaves free and taken together, and what others hold, as they were
   record Even (ls ms : List Line) : Type 0 where
-    nbz : Never-below-zero ms
+    solvent : Never-below-zero ms
     same-in-all : (k : ℕ) → free-on ms k + taken (r .aref) k ms ≡ free-on ls k + taken (r .aref) k ls
     same-others : (a k : ℕ) → (a ≡ r .aref → ⊥) → holding ms a k ≡ holding ls a k
 
   even-post : (ls ms : List Line) (k m : ℕ) → m ≤ free-on ms k → Even ls ms → Even ls (post t Granted 0 (r .aref) k m ms)
   even-post ls ms k m paid E = record {
-    nbz = nbz-post ms (E .nbz) t Granted 0 (r .aref) k m paid;
+    solvent = solvent-post ms (E .solvent) t Granted 0 (r .aref) k m paid;
     same-in-all = λ j.
         let z : cond (eqb k j && false) m 0 ≡ 0 = cond-never (eqb k j) m in
         let w : cond (eqb k j && true) m 0 ≡ cond (eqb (r .aref) (r .aref) && eqb k j) m 0 = rw (eq-eqb (r .aref) (r .aref) refl) (and-ever (eqb k j)) in
-        omega (arith, balance-post ms (E .nbz) t Granted 0 (r .aref) k m paid free j (omega arith), taken-post (r .aref) j t Granted 0 (r .aref) k m ms, E .same-in-all j);
+        omega (arith, balance-post ms (E .solvent) t Granted 0 (r .aref) k m paid free j (omega arith), taken-post (r .aref) j t Granted 0 (r .aref) k m ms, E .same-in-all j);
     same-others = λ c j ne.
-        omega (arith, E .same-others c j ne, less-post ms (E .nbz) t Granted 0 (r .aref) k m paid (held c) j (omega arith) (ne-eqb c (r .aref) ne), more-post ms (E .nbz) t Granted 0 (r .aref) k m paid (held c) j (omega arith) refl);
+        omega (arith, E .same-others c j ne, less-post ms (E .solvent) t Granted 0 (r .aref) k m paid (held c) j (omega arith) (ne-eqb c (r .aref) ne), more-post ms (E .solvent) t Granted 0 (r .aref) k m paid (held c) j (omega arith) refl);
   }
     where
       and-ever : (b : Bool) → cond (b && true) m 0 ≡ cond b m 0
@@ -257,7 +257,7 @@ module _ (t : ℕ) (r : Request) where
 
   even-grants : (ls : List Line) → Never-below-zero ls → Even ls (by-day (grant t r) (r .start) (r .length) ls)
   even-grants ls f = days-ind (grant t r) (Even ls) (r .start) (r .length) (λ k ms lo hi E. even-post ls ms k (min (free-on ms k) (wanted r k)) (omega arith) E) ls
-      (record { nbz = f; same-in-all = λ k. refl; same-others = λ a k ne. refl })
+      (record { solvent = f; same-in-all = λ k. refl; same-others = λ a k ne. refl })
 
   short-even : (ls ms : List Line) → Even ls ms → (k : ℕ) → short r k ms ≡ short r k ls
   short-even ls ms E k = ap (λ n. cond (leb (r .start) k && ltb k (r .start + r .length)) (wanted r k - n) 0) (E .same-in-all k)
@@ -294,7 +294,7 @@ module _ (R : Rules) (p : ℕ → ℕ) (v : View) (I : Right p v) (t : ℕ) (r :
       G = by-day (grant t r) (r .start) (r .length) (v .lines)
 
       even : Even t r (v .lines) (by-day (grant t r) (r .start) (r .length) (v .lines))
-      even = even-grants t r (v .lines) (I .sound .fine .nbz)
+      even = even-grants t r (v .lines) (I .sound .fine .solvent)
 
       one : (d : Entry) → (find (aref-of d) (v .places) ≡ d) × (defends R t r (v .days) d ≡ true) × (r .aref ≡ aref-of d → ⊥) →
           (is-pending (d .standing .state) ≡ true → meets-shortage r d (v .lines) ≡ false) → (is-pending (d .standing .state) ≡ false → Nothing-due t r R d (by-day (grant t r) (r .start) (r .length) (v .lines))) →

@@ -12,7 +12,7 @@ use Rattle.journal.specs.declared.line.LineKind.{LineKind}
 use Rattle.journal.specs.Accounts.{Account, outside, free, flown, held, aside, sort, same, from, to, balance, Never-below-zero}
 use Rattle.journal.proofs.Conservation.{never-overdrawn}
 use Rattle.law.specs.Posting.{post, by-day, holding}
-use Rattle.law.proofs.SoundLines.{nbz-push, takes-le, same-is}
+use Rattle.law.proofs.SoundLines.{solvent-push, takes-le, same-is}
 use Rattle.law.proofs.PostingEffects.{balance-post}
 
 -- for each day: what every day keeps, and what each day brings about and the others leave
@@ -37,20 +37,20 @@ days-each f P Z s (suc d) h z y ls p j lo hi = go (λ (q : suc s ≤ j). days-ea
     go ih (inl e) = subst (λ i. Z i (by-day f (suc s) d (f s ls))) e (after (z s ls p) (h s ls (omega arith) (omega arith) p, z s ls p))
     go ih (inr ne) = ih (omega arith)
 
-pub nbz-post : (ls : List Line) → Never-below-zero ls → (t : ℕ) (κ : LineKind) (a b k m : ℕ) → m ≤ balance ls (from κ a b) k → Never-below-zero (post t κ a b k m ls)
+pub solvent-post : (ls : List Line) → Never-below-zero ls → (t : ℕ) (κ : LineKind) (a b k m : ℕ) → m ≤ balance ls (from κ a b) k → Never-below-zero (post t κ a b k m ls)
 unfolding post balance
-nbz-post ls f t κ a b k m paid = go (eqb m 0)
+solvent-post ls f t κ a b k m paid = go (eqb m 0)
   where
     l : Line
     l = record { minute = t; kind = κ; a = a; b = b; day = k; mw = m }
 
     go : (c : Bool) → Never-below-zero (cond c ls (ls ++ record { minute = t; kind = κ; a = a; b = b; day = k; mw = m } ∷ []))
     go true = f
-    go false = nbz-push ls (record { minute = t; kind = κ; a = a; b = b; day = k; mw = m }) f (λ j x q. omega (arith, never-overdrawn ls f j x q, takes-le x j (record { minute = t; kind = κ; a = a; b = b; day = k; mw = m }) (balance ls) paid))
+    go false = solvent-push ls (record { minute = t; kind = κ; a = a; b = b; day = k; mw = m }) f (λ j x q. omega (arith, never-overdrawn ls f j x q, takes-le x j (record { minute = t; kind = κ; a = a; b = b; day = k; mw = m }) (balance ls) paid))
 
 -- H a k: AREF a may hold MW on day k. A a b k: MW of a may be aside for b on day k
 pub record Supp (H : ℕ → ℕ → Type 0) (A : ℕ → ℕ → ℕ → Type 0) (ls : List Line) : Type 0 where
-  pub nbz : Never-below-zero ls
+  pub solvent : Never-below-zero ls
   pub holds : (a k : ℕ) → 0 < holding ls a k → H a k
   pub asides : (a b k : ℕ) → 0 < balance ls (aside a b) k → A a b k
 
@@ -80,11 +80,11 @@ module _ (H : ℕ → ℕ → Type 0) (A : ℕ → ℕ → ℕ → Type 0) where
 
   pub supp-post : (t : ℕ) (κ : LineKind) (a b k m : ℕ) (ls : List Line) → m ≤ balance ls (from κ a b) k → (0 < m → Allowed H A k (to κ a b)) → Supp H A ls → Supp H A (post t κ a b k m ls)
   supp-post t κ a b k m ls paid w s = record {
-    nbz = nbz-post ls (s .nbz) t κ a b k m paid;
-    holds = λ c j p. had ls (s .nbz) t κ a b k m paid w (held c) j (omega arith) (λ q. s .holds c j q) p;
-    asides = λ c d j p. had ls (s .nbz) t κ a b k m paid w (aside c d) j (omega arith) (λ q. s .asides c d j q) p;
+    solvent = solvent-post ls (s .solvent) t κ a b k m paid;
+    holds = λ c j p. had ls (s .solvent) t κ a b k m paid w (held c) j (omega arith) (λ q. s .holds c j q) p;
+    asides = λ c d j p. had ls (s .solvent) t κ a b k m paid w (aside c d) j (omega arith) (λ q. s .asides c d j q) p;
   }
 
 pub supp-into : (H H′ : ℕ → ℕ → Type 0) (A A′ : ℕ → ℕ → ℕ → Type 0) (ls : List Line) →
     ((a k : ℕ) → 0 < holding ls a k → H a k → H′ a k) → ((a b k : ℕ) → 0 < balance ls (aside a b) k → A a b k → A′ a b k) → Supp H A ls → Supp H′ A′ ls
-supp-into H H′ A A′ ls f g s = record { nbz = s .nbz; holds = λ a k p. f a k p (s .holds a k p); asides = λ a b k p. g a b k p (s .asides a b k p) }
+supp-into H H′ A A′ ls f g s = record { solvent = s .solvent; holds = λ a k p. f a k p (s .holds a k p); asides = λ a b k p. g a b k p (s .asides a b k p) }

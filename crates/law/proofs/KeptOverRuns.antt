@@ -43,7 +43,7 @@ right-opened days places room = record {
   sound = sound-opened days places room;
   whole = record {
     supp = record {
-      nbz = sound-opened days places room .fine .nbz;
+      solvent = sound-opened days places room .fine .solvent;
       holds = λ a k p. absurd (let z = postings-elsewhere (days .amounts) (held a) k (omega arith) in omega arith);
       asides = λ a b k p. absurd (let z = postings-elsewhere (days .amounts) (aside a b) k (omega arith) in omega arith);
     };
@@ -71,7 +71,7 @@ days-at R (c ∷ cs) v = days-at R cs (step R c v .1) ∙ days-stay R c v
 
 pub accounted-right : (days : Days) (v : View) → v .days ≡ days → Right (posted-on days) v → Accounted v
 accounted-right days v e I = record {
-  solvent = I .sound .fine .nbz;
+  solvent = I .sound .fine .solvent;
   named = I .sound .fine .names;
   posted = λ day. I .sound .fine .whole day ∙ ap (λ ds. posted-on ds day) (sym e);
   holders = I .whole .supp .holds;
@@ -82,8 +82,8 @@ accounted-right days v e I = record {
 
 right-kept : (v : View) → Kept v → Right (posted-on (v .days)) v
 right-kept v K = record {
-  sound = record { fine = record { nbz = K .solvent; names = K .named; whole = K .posted }; low = K .accepted };
-  whole = record { supp = record { nbz = K .solvent; holds = K .holders; asides = λ a b day p. (K .challenged a b day p, K .competing a b day p) }; once = K .once };
+  sound = record { fine = record { solvent = K .solvent; names = K .named; whole = K .posted }; low = K .accepted };
+  whole = record { supp = record { solvent = K .solvent; holds = K .holders; asides = λ a b day p. (K .challenged a b day p, K .competing a b day p) }; once = K .once };
 }
 
 pub every-call-keeps : Every-call-keeps
@@ -92,7 +92,7 @@ every-call-keeps R v c K h =
     let I = right-step R (posted-on (v .days)) v (right-kept v K) c in
     let e = sym (days-stay R c v) in
     record {
-      solvent = I .sound .fine .nbz;
+      solvent = I .sound .fine .solvent;
       named = I .sound .fine .names;
       posted = λ day. I .sound .fine .whole day ∙ ap (λ days. posted-on days day) e;
       amounts = λ day. subst (λ days. posted-on days day ≤ 20000) e (K .amounts day);

@@ -78,7 +78,7 @@ module _ (es : List Entry) (ls : List Line) (W : Whole ls es) where
       S′ = days-ind f (Supp (Within es) (Apart es)) (start-of e) (length-of e) (λ k ms lo hi p. keeps k ms p) ls S
 
       zero′ : (k : ℕ) → start-of e ≤ k → k < start-of e + length-of e → holding (by-day f (start-of e) (length-of e) ls) (aref-of e) k ≡ 0
-      zero′ k lo hi = days-each f (Supp (Within es) (Apart es)) (λ j ms. holding ms (aref-of e) j ≡ 0) (start-of e) (length-of e) (λ k ms l h p. keeps k ms p) (λ k ms p. zeroes k ms (p .nbz)) (λ i j ms p z. omega (arith, lessens i j ms (p .nbz))) ls S k lo hi
+      zero′ k lo hi = days-each f (Supp (Within es) (Apart es)) (λ j ms. holding ms (aref-of e) j ≡ 0) (start-of e) (length-of e) (λ k ms l h p. keeps k ms p) (λ k ms p. zeroes k ms (p .solvent)) (λ i j ms p z. omega (arith, lessens i j ms (p .solvent))) ls S k lo hi
 
   pub whole-let-go : (t : ℕ) (e : Entry) → Found es e → is-pending (e .standing .state) ≡ true → Whole (by-day (release t (aref-of e)) (start-of e) (length-of e) ls) (change (aref-of e) leave es)
   whole-let-go t e E p = whole-leave e (release t (aref-of e)) E (inl p)
@@ -159,8 +159,8 @@ module _ (R : Rules) (t : ℕ) (es : List Entry) (ls : List Line) (W : Whole ls 
   pub lost-zero : (k : ℕ) → balance (by-day (lose t (aref-of e) (e .against)) (start-of e) (length-of e) ls) (aside (aref-of e) (e .against)) k ≡ 0
   lost-zero = all-zero _ supp-lost (λ k lo hi. days-each _ (Supp (Within es) (Apart es)) (λ j ms. balance ms (aside (aref-of e) (e .against)) j ≡ 0) (start-of e) (length-of e)
       (λ k ms lo hi s. supp-post (Within es) (Apart es) t Lost (aref-of e) (e .against) k _ ms (omega arith) (λ q. s .asides (aref-of e) (e .against) k q .1 .0) s)
-      (λ k ms s. omega (arith, from-post ms (s .nbz) t Lost (aref-of e) (e .against) k (balance ms (aside (aref-of e) (e .against)) k) (omega arith) (omega arith) refl))
-      (λ i j ms s z. omega (arith, less-post ms (s .nbz) t Lost (aref-of e) (e .against) j (balance ms (aside (aref-of e) (e .against)) j) (omega arith) (aside (aref-of e) (e .against)) i (omega arith) refl))
+      (λ k ms s. omega (arith, from-post ms (s .solvent) t Lost (aref-of e) (e .against) k (balance ms (aside (aref-of e) (e .against)) k) (omega arith) (omega arith) refl))
+      (λ i j ms s z. omega (arith, less-post ms (s .solvent) t Lost (aref-of e) (e .against) j (balance ms (aside (aref-of e) (e .against)) j) (omega arith) (aside (aref-of e) (e .against)) i (omega arith) refl))
       ls (W .supp) k lo hi)
 
   abbrev stays : Entry → Entry
@@ -191,8 +191,8 @@ module _ (R : Rules) (t : ℕ) (es : List Entry) (ls : List Line) (W : Whole ls 
   pub kept-zero : (k : ℕ) → balance (by-day (keep t (aref-of e) (e .against)) (start-of e) (length-of e) ls) (aside (aref-of e) (e .against)) k ≡ 0
   kept-zero = all-zero _ supp-kept (λ k lo hi. days-each _ (Supp (Within es) (Apart es)) (λ j ms. balance ms (aside (aref-of e) (e .against)) j ≡ 0) (start-of e) (length-of e)
       (λ k ms lo hi s. supp-post (Within es) (Apart es) t Kept (aref-of e) (e .against) k _ ms (omega arith) (λ q. s .asides (aref-of e) (e .against) k q .0 .0) s)
-      (λ k ms s. omega (arith, from-post ms (s .nbz) t Kept (aref-of e) (e .against) k (balance ms (aside (aref-of e) (e .against)) k) (omega arith) (omega arith) refl))
-      (λ i j ms s z. omega (arith, less-post ms (s .nbz) t Kept (aref-of e) (e .against) j (balance ms (aside (aref-of e) (e .against)) j) (omega arith) (aside (aref-of e) (e .against)) i (omega arith) refl))
+      (λ k ms s. omega (arith, from-post ms (s .solvent) t Kept (aref-of e) (e .against) k (balance ms (aside (aref-of e) (e .against)) k) (omega arith) (omega arith) refl))
+      (λ i j ms s z. omega (arith, less-post ms (s .solvent) t Kept (aref-of e) (e .against) j (balance ms (aside (aref-of e) (e .against)) j) (omega arith) (aside (aref-of e) (e .against)) i (omega arith) refl))
       ls (W .supp) k lo hi)
 
   module _ (x : ℕ) (c : Request) where

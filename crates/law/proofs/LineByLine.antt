@@ -19,8 +19,8 @@ use Rattle.law.specs.TurnLaw.{Only-submits-take, is-submit}
 use Rattle.law.proofs.WrittenLines.{writes-split}
 use Rattle.law.proofs.LinesOfCalls.{Sane, Okay, subject, pays-step}
 
-pub nbz-take : (n : ℕ) (ls : List Line) → Never-below-zero ls → Never-below-zero (take n ls)
-nbz-take n ls f m k x p = go (cases-lt n m)
+pub solvent-take : (n : ℕ) (ls : List Line) → Never-below-zero ls → Never-below-zero (take n ls)
+solvent-take n ls f m k x p = go (cases-lt n m)
   where
     go : (n < m) ⊎ (m ≤ n) → out-of x k (take m (take n ls)) ≤ into x k (take m (take n ls))
     go (inl h) = let l = length-take n ls in let q : length (take n ls) ≤ m = omega arith in rw (take-all m (take n ls) q) (f n k x p)

@@ -61,9 +61,9 @@ pub record Facing-off (R : Rules) (r : Request) (last : ℕ) (e c : Entry) : Typ
   pub against : e .against ≡ r .aref
   pub till : e .due ≡ last
   pub may : R .may-match r (in-state Confirmed e .standing) ≡ true
-  pub foe-lives : living c ≡ true
-  pub foe-competes : is-competing (c .standing .state) ≡ true
-  pub foe-is : c .standing .request ≡ r
+  pub challenger-lives : living c ≡ true
+  pub challenger-competes : is-competing (c .standing .state) ≡ true
+  pub challenger-is : c .standing .request ≡ r
 
 named-close : (R : Rules) (t b : ℕ) (ls : List Line) (e : Entry) → is b e ≡ true → aref-of (Calls.close R t ls e) ≡ b
 named-close R t b ls e q = go (is-pending (Calls.closed-state ls e)) ∙ eqb-true (aref-of e) b (and-parts (living e) (eqb (aref-of e) b) q .1)
@@ -103,10 +103,10 @@ module _ (R : Rules) (L : Lawful R) (r : Request) (last : ℕ) (s : ℕ → ℕ)
     neither : (x : ℕ) → (is-pending (find x (v .places) .standing .state) ≡ true) ⊎ (is-confirmed (find x (v .places) .standing .state) ≡ true) → (x ≡ a → ⊥) × (x ≡ r .aref → ⊥)
     neither x h =
         let n = not-both (find x (v .places) .standing .state) h in
-        ((λ q. false≢true (sym (n .0) ∙ (ap (λ y. is-challenged (find y (v .places) .standing .state)) q ∙ F .chal))), (λ q. false≢true (sym (n .1) ∙ (ap (λ y. is-competing (find y (v .places) .standing .state)) q ∙ F .foe-competes))))
+        ((λ q. false≢true (sym (n .0) ∙ (ap (λ y. is-challenged (find y (v .places) .standing .state)) q ∙ F .chal))), (λ q. false≢true (sym (n .1) ∙ (ap (λ y. is-competing (find y (v .places) .standing .state)) q ∙ F .challenger-competes))))
 
     still-change : (x : ℕ) (f : Entry → Entry) → ((e : Entry) → is x e ≡ true → aref-of (f e) ≡ x) → (x ≡ a → ⊥) → (x ≡ r .aref → ⊥) → Still (change x f (v .places))
-    still-change x f named na nb = still-same (v .places) (change x f (v .places)) (find-other x f named (v .places) a (F .lives) na) (find-other x f named (v .places) (r .aref) (F .foe-lives) nb) F
+    still-change x f named na nb = still-same (v .places) (change x f (v .places)) (find-other x f named (v .places) a (F .lives) na) (find-other x f named (v .places) (r .aref) (F .challenger-lives) nb) F
 
     -- what a call may make of it: nothing, its return, its loss
     abbrev pub After : ℕ → ℕ → List Line → List Entry → Type 0
@@ -118,7 +118,7 @@ module _ (R : Rules) (L : Lawful R) (r : Request) (last : ℕ) (s : ℕ → ℕ)
         subst Still (sym (cond-true (Places.match-open (change x f (v .places))) (change x f (v .places)) _ (open-now (change x f (v .places)) (find-other x f named (v .places) a (F .lives) na)))) (still-change x f named na nb)
 
     not-b : (e : Entry) → Found (v .places) e → is-challenged (e .standing .state) ≡ true → aref-of e ≡ r .aref → ⊥
-    not-b e E c q = false≢true (sym (not-competing (e .standing .state) c) ∙ (sym (ap (λ x. is-competing (x .standing .state)) (E .1)) ∙ (ap (λ y. is-competing (find y (v .places) .standing .state)) q ∙ F .foe-competes)))
+    not-b e E c q = false≢true (sym (not-competing (e .standing .state) c) ∙ (sym (ap (λ x. is-competing (x .standing .state)) (E .1)) ∙ (ap (λ y. is-competing (find y (v .places) .standing .state)) q ∙ F .challenger-competes)))
 
     after-declined : (t : ℕ) (e : Entry) → Found (v .places) e → is-challenged (e .standing .state) ≡ true → Holds (After t (aref-of e)) (Calls.declined R t e v)
     after-declined t e E c = holds (After t (aref-of e)) _ _ _ _ (go (cases-eq (aref-of e) a))
@@ -131,7 +131,7 @@ module _ (R : Rules) (L : Lawful R) (r : Request) (last : ℕ) (s : ℕ → ℕ)
         go (inl q) =
             let f : e .against ≡ r .aref = ap (λ x. x .against) (sym (E .1) ∙ ap (λ y. find y (v .places)) q) ∙ F .against in
             let O′ : Wholly-aside s (aref-of e) (e .against) (v .lines) = subst (λ y. Wholly-aside s y (e .against) (v .lines)) (sym q) (subst (λ y. Wholly-aside s a y (v .lines)) (sym f) (O .1)) in
-            let T = lost-tally t (aref-of e) (e .against) (v .lines) (I .sound .fine .nbz) (start-of e) (length-of e) in
+            let T = lost-tally t (aref-of e) (e .against) (v .lines) (I .sound .fine .solvent) (start-of e) (length-of e) in
             let Z = lost-zero R t (v .places) (v .lines) (I .whole) e E c in
             let W : Wholly-lost s (aref-of e) (e .against) (by-day (lose t (aref-of e) (e .against)) (start-of e) (length-of e) (v .lines)) = λ k. (Z k, omega (arith, T .1 k .1, O′ k .1), omega (arith, T .1 k .0, Z k, O′ k .0, O′ k .2)) in
             inr (inr (subst (λ y. Wholly-lost s y (r .aref) (by-day (lose t (aref-of e) (e .against)) (start-of e) (length-of e) (v .lines))) q (subst (λ y. Wholly-lost s (aref-of e) y (by-day (lose t (aref-of e) (e .against)) (start-of e) (length-of e) (v .lines))) f W)))
@@ -189,7 +189,7 @@ module _ (R : Rules) (L : Lawful R) (r : Request) (last : ℕ) (s : ℕ → ℕ)
             O′ = subst (λ i. Wholly-aside s i (e .against) (v .lines)) (sym q) (subst (λ i. Wholly-aside s a i (v .lines)) (sym f) (O .1))
 
             T : Never-below-zero ls₁ × ((k : ℕ) → (noted comes-back (aref-of e) (e .against) k ls₁ + balance ls₁ (aside (aref-of e) (e .against)) k ≡ noted comes-back (aref-of e) (e .against) k (v .lines) + balance (v .lines) (aside (aref-of e) (e .against)) k) × (noted goes-over (aref-of e) (e .against) k ls₁ ≡ noted goes-over (aref-of e) (e .against) k (v .lines)))
-            T = kept-tally t (aref-of e) (e .against) (v .lines) (I .sound .fine .nbz) (start-of e) (length-of e)
+            T = kept-tally t (aref-of e) (e .against) (v .lines) (I .sound .fine .solvent) (start-of e) (length-of e)
 
             W : Wholly-kept s (aref-of e) (e .against) ls₂
             W k =
@@ -198,7 +198,7 @@ module _ (R : Rules) (L : Lawful R) (r : Request) (last : ℕ) (s : ℕ → ℕ)
                 (omega (arith, X .0, Z), omega (arith, X .1, T .1 k .0, Z, O′ k .0, O′ k .1), omega (arith, X .2, T .1 k .1, O′ k .2))
 
             cr-is : cr ≡ r
-            cr-is = ap (λ i. find i (v .places) .standing .request) f ∙ F .foe-is
+            cr-is = ap (λ i. find i (v .places) .standing .request) f ∙ F .challenger-is
 
             el : living (find (aref-of e) (v .places)) ≡ true
             el = ap living (E .1) ∙ E .0
@@ -231,7 +231,7 @@ module _ (R : Rules) (L : Lawful R) (r : Request) (last : ℕ) (s : ℕ → ℕ)
         low c l up e = let z = count-none (v .top) (q .aref) (v .places) up (I .sound .low) in let y = find-count c (v .places) l in let w = subst (λ i. count i (v .places) ≡ 0) e z in omega arith
 
         seats : (st : State) → v .top < q .aref → (Still (seat (Places.new-record R t q st) (v .places)) × (d ≡ a → ⊥)) ⊎ ((Wholly-kept s a (r .aref) (by-day (Preemption.grant t q) (q .start) (q .length) (v .lines)) × (t ≤ last) × (R .outranks r (find a (seat (Places.new-record R t q st) (v .places)) .standing) ≡ false)) ⊎ Wholly-lost s a (r .aref) (by-day (Preemption.grant t q) (q .start) (q .length) (v .lines)))
-        seats st up = inl (still-same (v .places) _ (find-seat-other (Places.new-record R t q st) a (v .places) (low a (F .lives) up)) (find-seat-other (Places.new-record R t q st) (r .aref) (v .places) (low (r .aref) (F .foe-lives) up)) F, nd)
+        seats st up = inl (still-same (v .places) _ (find-seat-other (Places.new-record R t q st) a (v .places) (low a (F .lives) up)) (find-seat-other (Places.new-record R t q st) (r .aref) (v .places) (low (r .aref) (F .challenger-lives) up)) F, nd)
 
     after-by : (t x : ℕ) (g : State → Bool) (c : ℕ) (f : Entry → Made) → (living (find c (v .places)) ≡ true → g (find c (v .places) .standing .state) ≡ true → Holds (After t x) (f (find c (v .places)))) → Holds (After t x) (Calls.by-aref g c v f)
     after-by t x g c f h = holds-stop (After t x) _ _ _ (λ u. holds-stop (After t x) _ _ _ (λ w. h (ap not u) (not-false _ w)))
@@ -266,7 +266,7 @@ module _ (R : Rules) (L : Lawful R) (r : Request) (last : ℕ) (s : ℕ → ℕ)
     after-made (settle t) nd = after-settles t (Calls.first-due t (v .places)) _ refl (all-due (λ e. living e ≡ true → find (aref-of e) (v .places) ≡ e) t (v .places) (λ l. absurd (false≢true l)) (all-found (v .places) (I .whole .once)))
 
     known : r .aref ≤ v .top
-    known = let y = find-aref (r .aref) (v .places) (F .foe-lives) in
+    known = let y = find-aref (r .aref) (v .places) (F .challenger-lives) in
         let z : aref-of (find (r .aref) (v .places)) ≤ v .top = all-find (λ x. aref-of x ≤ v .top) (r .aref) (v .places) (omega arith) (all-weaker _ _ (λ x q. q .0) (v .places) (I .sound .low)) in omega arith
 
     abbrev pub Next : Call → List Line → List Entry → Type 0
@@ -282,7 +282,7 @@ module _ (R : Rules) (L : Lawful R) (r : Request) (last : ℕ) (s : ℕ → ℕ)
           where
             go : After (minute-of c) (subject (suc a) c v) ls fs → Next c ls fs
             go (inl x) =
-                let A = quiet (is-submit c) (v .top) (subject (suc a) c v) a (r .aref) known (v .lines) (I .sound .fine .nbz) (inl (x .1)) (h .1) in
+                let A = quiet (is-submit c) (v .top) (subject (suc a) c v) a (r .aref) known (v .lines) (I .sound .fine .solvent) (inl (x .1)) (h .1) in
                 inl (x .0, (λ k. (A .1 k .0 ∙ O .1 k .0, A .1 k .1 ∙ O .1 k .1, A .1 k .2 ∙ O .1 k .2)))
             go (inr x) = inr x
 
@@ -294,7 +294,7 @@ module _ (R : Rules) (L : Lawful R) where
   unfolding run
   closed-run p a b K N [] v I h z = z
   closed-run p a b K N (c ∷ cs) v I h z =
-      let A = quiet (is-submit c) (v .top) (subject 0 c v) a b h (v .lines) (I .sound .fine .nbz) (inr (λ k. z k .0)) (pays-step R v 0 c) in
+      let A = quiet (is-submit c) (v .top) (subject 0 c v) a b h (v .lines) (I .sound .fine .solvent) (inr (λ k. z k .0)) (pays-step R v 0 c) in
       let g = top-grows R v (I .whole) (I .sound .low) c in
       closed-run p a b K N cs (step R c v .1) (right-step R p v I c) (omega arith) (λ k. (A .1 k .0 ∙ z k .0, A .1 k .1 ∙ z k .1, A .1 k .2 ∙ z k .2))
 

@@ -86,9 +86,9 @@ module _ (R : Rules) (L : Lawful R) (p : ℕ → ℕ) (v : View) (I : Right p v)
               against = refl;
               till = refl;
               may = ap (λ st. R .may-match r (record { request = find a (v .places) .standing .request; state = st; queued = find a (v .places) .standing .queued })) (sym sc) ∙ d .1;
-              foe-lives = xl;
-              foe-competes = ap (λ c. is-competing (cond c Competing Confirmed)) o;
-              foe-is = refl;
+              challenger-lives = xl;
+              challenger-competes = ap (λ c. is-competing (cond c Competing Confirmed)) o;
+              challenger-is = refl;
             } in
             subst (λ e. Facing-off R r (R .answer-by r (find a (v .places) .standing) t (v .days)) e (find (r .aref) (seat x (map (g R t r v (Preemption.preempt R t r v)) (v .places))))) (sym A)
             (subst (λ c. Facing-off R r (R .answer-by r (find a (v .places) .standing) t (v .days)) (record { standing = record { request = find a (v .places) .standing .request; state = Challenged; queued = find a (v .places) .standing .queued }; due = R .answer-by r (find a (v .places) .standing) t (v .days); against = r .aref }) c) (sym B) fo)

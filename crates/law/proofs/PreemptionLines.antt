@@ -89,12 +89,12 @@ module _ (R : Rules) (t : ℕ) (r : Request) (base : List Line) (whole : List En
   -- granting
   pub writes-grant : (s d : ℕ) (ls : List Line) → Never-below-zero ls → Writes (Fact r base whole) ls (by-day (grant t r) s d ls)
   writes-grant s d ls f = writes-days (Fact r base whole) Never-below-zero (grant t r) (λ k ms p. (
-    later-granted r t 0 k _ ms p (omega arith) .nbz,
+    later-granted r t 0 k _ ms p (omega arith) .solvent,
     writes-post (Fact r base whole) t Granted 0 (r .aref) k _ ms (λ q. (subst (λ x. Later r ms x) (post-is t Granted 0 (r .aref) k _ ms q) (later-granted r t 0 k _ ms p (omega arith)), tt)),
   )) s d ls f
 
   pub later-grant : (s d : ℕ) (ls : List Line) → Never-below-zero ls → Later r ls (by-day (grant t r) s d ls)
-  later-grant s d ls f = days-ind (grant t r) (Later r ls) s d (λ k ms lo hi p. later-trans r ls ms _ p (later-granted r t 0 k _ ms (p .nbz) (omega arith))) ls (later-refl r ls f)
+  later-grant s d ls f = days-ind (grant t r) (Later r ls) s d (λ k ms lo hi p. later-trans r ls ms _ p (later-granted r t 0 k _ ms (p .solvent) (omega arith))) ls (later-refl r ls f)
 
   -- one giver
   took-line : (c : Bool) (d : Entry) (pre rest : List Entry) (k m : ℕ) (ms : List Line) → whole ≡ pre ++ d ∷ rest → 0 < short r k ms → All (λ e. Given-up r e ms) pre →
@@ -116,7 +116,7 @@ module _ (R : Rules) (t : ℕ) (r : Request) (base : List Line) (whole : List En
 
   writes-give : (pre rest : List Entry) (d : Entry) → whole ≡ pre ++ d ∷ rest → All (Other r) pre → Other r d → (ls : List Line) → Never-below-zero ls → All (λ e. Given-up r e ls) pre → Writes (Fact r base whole) ls (give R t r d ls)
   writes-give pre rest d e o n ls f g = writes-days (Fact r base whole) (Later r ls) _ (λ k ms p.
-      let one : Later r ms (post t (cond (R .may-match r (d .standing)) SetAside Recalled) (aref-of d) (r .aref) k (min (holding ms (aref-of d) k) (short r k ms)) ms) = later-given r (R .may-match r (d .standing)) t (aref-of d) k _ ms (p .nbz) (omega arith) in (
+      let one : Later r ms (post t (cond (R .may-match r (d .standing)) SetAside Recalled) (aref-of d) (r .aref) k (min (holding ms (aref-of d) k) (short r k ms)) ms) = later-given r (R .may-match r (d .standing)) t (aref-of d) k _ ms (p .solvent) (omega arith) in (
         later-trans r ls ms _ p one,
         writes-post (Fact r base whole) t _ (aref-of d) (r .aref) k _ ms (λ q. (
           subst (λ x. Later r ms x) (post-is t _ (aref-of d) (r .aref) k _ ms q) one,
@@ -139,7 +139,7 @@ module _ (R : Rules) (t : ℕ) (r : Request) (base : List Line) (whole : List En
       go ih false q =
           let ms = give R t r d ls in
           let L : Later r ls ms = later-give r R t d (n .0) ls f in
-          let w = ih ms (L .nbz) (terms-later ds ls ms (n .1) L (i .1)) (all-push (λ x. Given-up r x ms) pre d (ups-later pre ls ms o L g) (give-up r R t d (n .0) ls f (i .0))) (pends-later ds ls ms (n .1) L (h .1)) in
+          let w = ih ms (L .solvent) (terms-later ds ls ms (n .1) L (i .1)) (all-push (λ x. Given-up r x ms) pre d (ups-later pre ls ms o L g) (give-up r R t d (n .0) ls f (i .0))) (pends-later ds ls ms (n .1) L (h .1)) in
           (writes-trans (Fact r base whole) ls ms (writes-give pre ds d e o (n .0) ls f g) (w .0), later-trans r ls ms _ L (w .1))
 
   -- one that is superseded
@@ -153,7 +153,7 @@ module _ (R : Rules) (t : ℕ) (r : Request) (base : List Line) (whole : List En
           (Later r ls (post t Superseded (aref-of d) (r .aref) k (holding ms (aref-of d) k) ms) × ((ws : List Line) × (post t Superseded (aref-of d) (r .aref) k (holding ms (aref-of d) k) ms ≡ ls ++ ws) × All (λ x. (x .kind ≡ Superseded) × (x .a ≡ aref-of d)) ws))
           × Writes (Fact r base whole) ms (post t Superseded (aref-of d) (r .aref) k (holding ms (aref-of d) k) ms)
       one w k ms p =
-          let L = later-superseded r t (aref-of d) k (holding ms (aref-of d) k) ms (p .0 .nbz) (omega arith) in
+          let L = later-superseded r t (aref-of d) k (holding ms (aref-of d) k) ms (p .0 .solvent) (omega arith) in
           let z = or-parts (eqb (holding ls (aref-of d) (w .0)) 0) (eqb (short r (w .0) ls) 0) (w .3) in
           let n1 = eqb-false (holding ls (aref-of d) (w .0)) 0 (z .0) in
           let n2 = eqb-false (short r (w .0) ls) 0 (z .1) in (
@@ -214,7 +214,7 @@ module _ (R : Rules) (t : ℕ) (r : Request) (base : List Line) (whole : List En
           let L : Later r ls ms = later-supersede r t d (n .0) ls f in
           let up : Given-up r d ms = supersede-up r t d (n .0) ls f (i .0) in
           let B′ = writes-grows (Fact r base whole) ls (writes-supersede pre ds d e q ls B f g) in
-          let w = ih ms (B .0 ++ B′ .0, B′ .1 ∙ (ap (λ x. x ++ B′ .0) (B .1) ∙ append-assoc base (B .0) (B′ .0))) (L .nbz) (terms-later ds ls ms (n .1) L (i .1)) (all-push (λ x. is-pending (x .standing .state) ≡ true → Given-up r x ms) pre d (pends-later pre ls ms o L g) (λ _. up)) in
+          let w = ih ms (B .0 ++ B′ .0, B′ .1 ∙ (ap (λ x. x ++ B′ .0) (B .1) ∙ append-assoc base (B .0) (B′ .0))) (L .solvent) (terms-later ds ls ms (n .1) L (i .1)) (all-push (λ x. is-pending (x .standing .state) ≡ true → Given-up r x ms) pre d (pends-later pre ls ms o L g) (λ _. up)) in
           (writes-trans (Fact r base whole) ls ms (writes-supersede pre ds d e q ls B f g) (w .0), later-trans r ls ms _ L (w .1), ((λ _. given-up-later r d ms _ (n .0) (w .1) up), w .2))
       go ih false q =
           let no′ : is-pending (d .standing .state) ≡ true → Given-up r d ls = λ p. absurd (false≢true (sym q ∙ p)) in
@@ -227,7 +227,7 @@ module _ (R : Rules) (t : ℕ) (r : Request) (base : List Line) (whole : List En
   writes-preempt s d o ls B f i =
       let a = writes-supersede-all [] whole refl tt o ls B f i tt in
       let ms = supersede-all t r whole ls in
-      let L = later-grant s d ms (a .1 .nbz) in
+      let L = later-grant s d ms (a .1 .solvent) in
       let M = later-trans r ls ms _ (a .1) L in
-      let b = writes-give-all [] whole refl tt o (by-day (grant t r) s d ms) (L .nbz) (terms-later whole ls _ o M i) tt (pends-later whole ms _ o L (a .2)) in
-      writes-trans (Fact r base whole) ls ms (a .0) (writes-trans (Fact r base whole) ms _ (writes-grant s d ms (a .1 .nbz)) (b .0))
+      let b = writes-give-all [] whole refl tt o (by-day (grant t r) s d ms) (L .solvent) (terms-later whole ls _ o M i) tt (pends-later whole ms _ o L (a .2)) in
+      writes-trans (Fact r base whole) ls ms (a .0) (writes-trans (Fact r base whole) ms _ (writes-grant s d ms (a .1 .solvent)) (b .0))

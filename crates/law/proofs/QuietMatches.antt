@@ -16,9 +16,9 @@ use Rattle.journal.proofs.Conservation.{never-overdrawn}
 use Rattle.law.specs.Posting.{post, by-day, free-on}
 use Rattle.law.specs.Calls.{lose, keep, extend}
 use Rattle.law.specs.MatchLaw.{noted, comes-back, goes-over}
-use Rattle.law.proofs.SoundLines.{nbz-push, takes-le, cond-never, same-is}
+use Rattle.law.proofs.SoundLines.{solvent-push, takes-le, cond-never, same-is}
 use Rattle.law.proofs.PostingEffects.{balance-push, balance-post}
-use Rattle.law.proofs.Holders.{days-ind, nbz-post}
+use Rattle.law.proofs.Holders.{days-ind, solvent-post}
 use Rattle.law.proofs.WrittenLines.{Writes, at-first, and-then}
 use Rattle.law.proofs.LinesOfCalls.{Okay, Sane}
 
@@ -88,7 +88,7 @@ module _ (sub : Bool) (n x a b : ℕ) (known : b ≤ n) (base : List Line) where
   alike-push : (ms : List Line) (l : Line) → Alike ms → Sane sub n x ms l → same (aside a b) (source l) ≡ false → Alike (ms ++ l ∷ [])
   unfolding balance
   alike-push ms l A s ns = (
-    nbz-push ms l (A .0) (λ k y q. omega (arith, never-overdrawn ms (A .0) k y q, takes-le y k l (balance ms) (s .1))),
+    solvent-push ms l (A .0) (λ k y q. omega (arith, never-overdrawn ms (A .0) k y q, takes-le y k l (balance ms) (s .1))),
     (λ k.
         let nt = not-to sub n x (l .kind) a b (l .a) (l .b) known (s .2) in
         let e = balance-push ms (A .0) (l .minute) (l .kind) (l .a) (l .b) (l .day) (l .mw) (s .1) (aside a b) k (omega arith) in
@@ -140,7 +140,7 @@ module _ (t a b : ℕ) (ls : List Line) (f : Never-below-zero ls) where
   pub lost-tally : (s d : ℕ) → Never-below-zero (by-day (lose t a b) s d ls) × ((k : ℕ) → (noted goes-over a b k (by-day (lose t a b) s d ls) + balance (by-day (lose t a b) s d ls) (aside a b) k ≡ noted goes-over a b k ls + balance ls (aside a b) k) × (noted comes-back a b k (by-day (lose t a b) s d ls) ≡ noted comes-back a b k ls))
   lost-tally s d = days-ind (lose t a b) (λ ms. Never-below-zero ms × ((k : ℕ) → (noted goes-over a b k ms + balance ms (aside a b) k ≡ noted goes-over a b k ls + balance ls (aside a b) k) × (noted comes-back a b k ms ≡ noted comes-back a b k ls))) s d
       (λ j ms lo hi A. (
-        nbz-post ms (A .0) t Lost a b j (balance ms (aside a b) j) (omega arith),
+        solvent-post ms (A .0) t Lost a b j (balance ms (aside a b) j) (omega arith),
         (λ k.
             let z : cond (eqb j k && false) (balance ms (aside a b) j) 0 ≡ 0 = cond-never (eqb j k) (balance ms (aside a b) j) in (
               omega (arith, balance-post ms (A .0) t Lost a b j (balance ms (aside a b) j) (omega arith) (aside a b) k (omega arith), noted-post goes-over a b k t Lost a b j (balance ms (aside a b) j) ms, A .1 k .0),
@@ -151,7 +151,7 @@ module _ (t a b : ℕ) (ls : List Line) (f : Never-below-zero ls) where
   pub kept-tally : (s d : ℕ) → Never-below-zero (by-day (keep t a b) s d ls) × ((k : ℕ) → (noted comes-back a b k (by-day (keep t a b) s d ls) + balance (by-day (keep t a b) s d ls) (aside a b) k ≡ noted comes-back a b k ls + balance ls (aside a b) k) × (noted goes-over a b k (by-day (keep t a b) s d ls) ≡ noted goes-over a b k ls))
   kept-tally s d = days-ind (keep t a b) (λ ms. Never-below-zero ms × ((k : ℕ) → (noted comes-back a b k ms + balance ms (aside a b) k ≡ noted comes-back a b k ls + balance ls (aside a b) k) × (noted goes-over a b k ms ≡ noted goes-over a b k ls))) s d
       (λ j ms lo hi A. (
-        nbz-post ms (A .0) t Kept a b j (balance ms (aside a b) j) (omega arith),
+        solvent-post ms (A .0) t Kept a b j (balance ms (aside a b) j) (omega arith),
         (λ k.
             let z : cond (eqb j k && false) (balance ms (aside a b) j) 0 ≡ 0 = cond-never (eqb j k) (balance ms (aside a b) j) in (
               omega (arith, balance-post ms (A .0) t Kept a b j (balance ms (aside a b) j) (omega arith) (aside a b) k (omega arith), noted-post comes-back a b k t Kept a b j (balance ms (aside a b) j) ms, A .1 k .0),
@@ -168,7 +168,7 @@ module _ (t a b : ℕ) (ls : List Line) (f : Never-below-zero ls) where
           Never-below-zero ms × ((k : ℕ) → (balance ms (aside a b) k ≡ balance ls (aside a b) k) × (noted comes-back a b k ms ≡ noted comes-back a b k ls) × (noted goes-over a b k ms ≡ noted goes-over a b k ls)) →
           Never-below-zero (post t κ x z j m ms) × ((k : ℕ) → (balance (post t κ x z j m ms) (aside a b) k ≡ balance ls (aside a b) k) × (noted comes-back a b k (post t κ x z j m ms) ≡ noted comes-back a b k ls) × (noted goes-over a b k (post t κ x z j m ms) ≡ noted goes-over a b k ls))
       still κ nf nt x z j m ms paid A = (
-        nbz-post ms (A .0) t κ x z j m paid,
+        solvent-post ms (A .0) t κ x z j m paid,
         (λ k.
             let c₁ : cond (eqb j k && same (aside a b) (from κ x z)) m 0 ≡ 0 = rw (nf x z) (cond-never (eqb j k) m) in
             let c₂ : cond (eqb j k && same (aside a b) (to κ x z)) m 0 ≡ 0 = rw (nt x z) (cond-never (eqb j k) m) in

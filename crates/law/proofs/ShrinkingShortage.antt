@@ -17,7 +17,7 @@ use Rattle.law.specs.View.{Entry, aref-of, start-of, length-of}
 use Rattle.law.specs.Posting.{post, by-day, each-day, holding, free-on}
 use Rattle.law.proofs.SoundLines.{cond-never}
 use Rattle.law.proofs.PostingEffects.{balance-post, less-post, from-post, taken-post}
-use Rattle.law.proofs.Holders.{days-ind, days-each, nbz-post}
+use Rattle.law.proofs.Holders.{days-ind, days-each, solvent-post}
 
 gives-out : (h h′ m s s′ k k′ mw : ℕ) (c : Bool) → h′ + m ≡ h → s′ ≡ s → k′ ≡ k + m → m ≡ min h (cond c (mw - (s + k)) 0) → 0 < cond c (mw - (s′ + k′)) 0 → h′ ≡ 0
 gives-out h h′ m s s′ k k′ mw true a b c d e = omega arith
@@ -44,15 +44,15 @@ each-false p s (suc d) h = go (λ (q : each-day p (suc s) d ≡ false). each-fal
 
 module _ (r : Request) where
   pub record Later (ms ns : List Line) : Type 0 where
-    pub nbz : Never-below-zero ns
+    pub solvent : Never-below-zero ns
     pub gain : (k : ℕ) → free-on ms k + taken (r .aref) k ms ≤ free-on ns k + taken (r .aref) k ns
     pub less : (a k : ℕ) → (a ≡ r .aref → ⊥) → holding ns a k ≤ holding ms a k
 
   pub later-refl : (ms : List Line) → Never-below-zero ms → Later ms ms
-  later-refl ms f = record { nbz = f; gain = λ k. omega arith; less = λ a k ne. omega arith }
+  later-refl ms f = record { solvent = f; gain = λ k. omega arith; less = λ a k ne. omega arith }
 
   pub later-trans : (ls ms ns : List Line) → Later ls ms → Later ms ns → Later ls ns
-  later-trans ls ms ns p q = record { nbz = q .nbz; gain = λ k. omega (arith, p .gain k, q .gain k); less = λ a k ne. omega (arith, p .less a k ne, q .less a k ne) }
+  later-trans ls ms ns p q = record { solvent = q .solvent; gain = λ k. omega (arith, p .gain k, q .gain k); less = λ a k ne. omega (arith, p .less a k ne, q .less a k ne) }
 
   pub shorter : (ms ns : List Line) → Later ms ns → (k : ℕ) → short r k ns ≤ short r k ms
   shorter ms ns p k = go (leb (r .start) k && ltb k (r .start + r .length))
@@ -64,7 +64,7 @@ module _ (r : Request) where
   -- the four kinds of line that a submit writes
   pub later-superseded : (t a k m : ℕ) (ms : List Line) → Never-below-zero ms → m ≤ holding ms a k → Later ms (post t Superseded a (r .aref) k m ms)
   later-superseded t a k m ms f paid = record {
-    nbz = nbz-post ms f t Superseded a (r .aref) k m paid;
+    solvent = solvent-post ms f t Superseded a (r .aref) k m paid;
     gain = λ j.
         let z : cond (eqb k j && false) m 0 ≡ 0 = cond-never (eqb k j) m in
         omega (arith, balance-post ms f t Superseded a (r .aref) k m paid free j (omega arith), taken-post (r .aref) j t Superseded a (r .aref) k m ms);
@@ -73,7 +73,7 @@ module _ (r : Request) where
 
   pub later-granted : (t a k m : ℕ) (ms : List Line) → Never-below-zero ms → m ≤ free-on ms k → Later ms (post t Granted a (r .aref) k m ms)
   later-granted t a k m ms f paid = record {
-    nbz = nbz-post ms f t Granted a (r .aref) k m paid;
+    solvent = solvent-post ms f t Granted a (r .aref) k m paid;
     gain = λ j.
         let z : cond (eqb k j && false) m 0 ≡ 0 = cond-never (eqb k j) m in
         let w : cond (eqb k j && true) m 0 ≡ cond (eqb (r .aref) (r .aref) && eqb k j) m 0 = rw (eq-eqb (r .aref) (r .aref) refl) (and-ever (eqb k j)) in
@@ -88,14 +88,14 @@ module _ (r : Request) where
   -- given is SetAside or Recalled
   pub later-given : (c : Bool) (t a k m : ℕ) (ms : List Line) → Never-below-zero ms → m ≤ holding ms a k → Later ms (post t (cond c SetAside Recalled) a (r .aref) k m ms)
   later-given true t a k m ms f paid = record {
-    nbz = nbz-post ms f t SetAside a (r .aref) k m paid;
+    solvent = solvent-post ms f t SetAside a (r .aref) k m paid;
     gain = λ j.
         let z : cond (eqb k j && false) m 0 ≡ 0 = cond-never (eqb k j) m in
         omega (arith, balance-post ms f t SetAside a (r .aref) k m paid free j (omega arith), taken-post (r .aref) j t SetAside a (r .aref) k m ms);
     less = λ c j ne. less-post ms f t SetAside a (r .aref) k m paid (held c) j (omega arith) refl;
   }
   later-given false t a k m ms f paid = record {
-    nbz = nbz-post ms f t Recalled a (r .aref) k m paid;
+    solvent = solvent-post ms f t Recalled a (r .aref) k m paid;
     gain = λ j.
         let z : cond (eqb k j && false) m 0 ≡ 0 = cond-never (eqb k j) m in
         omega (arith, balance-post ms f t Recalled a (r .aref) k m paid free j (omega arith), taken-post (r .aref) j t Recalled a (r .aref) k m ms);
@@ -146,7 +146,7 @@ module _ (r : Request) where
     give-day k ms = post t (cond (R .may-match r (d .standing)) SetAside Recalled) (aref-of d) (r .aref) k (min (holding ms (aref-of d) k) (short r k ms)) ms
 
     pub later-give : (ls : List Line) → Never-below-zero ls → Later ls (give R t r d ls)
-    later-give ls f = days-ind _ (Later ls) (start-of d) (length-of d) (λ k ms lo hi p. later-trans ls ms _ p (later-given (R .may-match r (d .standing)) t (aref-of d) k _ ms (p .nbz) (omega arith))) ls (later-refl ls f)
+    later-give ls f = days-ind _ (Later ls) (start-of d) (length-of d) (λ k ms lo hi p. later-trans ls ms _ p (later-given (R .may-match r (d .standing)) t (aref-of d) k _ ms (p .solvent) (omega arith))) ls (later-refl ls f)
 
     pub give-up : (ls : List Line) → Never-below-zero ls → In-term d ls → Given-up d (give R t r d ls)
     give-up ls f h k q = go (in-or-none d ls k h)
@@ -157,7 +157,7 @@ module _ (r : Request) where
         go : (holding ls (aref-of d) k ≡ 0) ⊎ ((start-of d ≤ k) × (k < start-of d + length-of d)) → holding (give R t r d ls) (aref-of d) k ≡ 0
         go (inl z) = omega (arith, L .less (aref-of d) k ne)
         go (inr w) = days-each _ Never-below-zero (λ j ms. 0 < short r j ms → holding ms (aref-of d) j ≡ 0) (start-of d) (length-of d)
-            (λ j ms lo hi p. nbz-given j ms p)
+            (λ j ms lo hi p. solvent-given j ms p)
             (λ j ms p. given-all (R .may-match r (d .standing)) t (aref-of d) j ms p ne)
             (λ i j ms p g s. omega (arith, g (omega (arith, shorter ms _ (one j ms p) i)), one j ms p .less (aref-of d) i ne))
             ls f k (w .0) (w .1) q
@@ -165,15 +165,15 @@ module _ (r : Request) where
             one : (j : ℕ) (ms : List Line) → Never-below-zero ms → Later ms (post t (cond (R .may-match r (d .standing)) SetAside Recalled) (aref-of d) (r .aref) j (min (holding ms (aref-of d) j) (short r j ms)) ms)
             one j ms p = later-given (R .may-match r (d .standing)) t (aref-of d) j _ ms p (omega arith)
 
-            nbz-given : (j : ℕ) (ms : List Line) → Never-below-zero ms → Never-below-zero (post t (cond (R .may-match r (d .standing)) SetAside Recalled) (aref-of d) (r .aref) j (min (holding ms (aref-of d) j) (short r j ms)) ms)
-            nbz-given j ms p = one j ms p .nbz
+            solvent-given : (j : ℕ) (ms : List Line) → Never-below-zero ms → Never-below-zero (post t (cond (R .may-match r (d .standing)) SetAside Recalled) (aref-of d) (r .aref) j (min (holding ms (aref-of d) j) (short r j ms)) ms)
+            solvent-given j ms p = one j ms p .solvent
 
   module _ (t : ℕ) (d : Entry) (ne : aref-of d ≡ r .aref → ⊥) where
     sup-day : ℕ → List Line → List Line
     sup-day k ms = post t Superseded (aref-of d) (r .aref) k (holding ms (aref-of d) k) ms
 
     later-sup-days : (ls : List Line) → Never-below-zero ls → Later ls (by-day (λ k ms. post t Superseded (aref-of d) (r .aref) k (holding ms (aref-of d) k) ms) (start-of d) (length-of d) ls)
-    later-sup-days ls f = days-ind _ (Later ls) (start-of d) (length-of d) (λ k ms lo hi p. later-trans ls ms _ p (later-superseded t (aref-of d) k _ ms (p .nbz) (omega arith))) ls (later-refl ls f)
+    later-sup-days ls f = days-ind _ (Later ls) (start-of d) (length-of d) (λ k ms lo hi p. later-trans ls ms _ p (later-superseded t (aref-of d) k _ ms (p .solvent) (omega arith))) ls (later-refl ls f)
 
     pub later-supersede : (ls : List Line) → Never-below-zero ls → Later ls (supersede t r d ls)
     later-supersede ls f = go (meets-shortage r d ls)
@@ -191,7 +191,7 @@ module _ (r : Request) where
         whole : (holding ls (aref-of d) k ≡ 0) ⊎ ((start-of d ≤ k) × (k < start-of d + length-of d)) → holding (by-day (λ k ms. post t Superseded (aref-of d) (r .aref) k (holding ms (aref-of d) k) ms) (start-of d) (length-of d) ls) (aref-of d) k ≡ 0
         whole (inl z) = omega (arith, later-sup-days ls f .less (aref-of d) k ne)
         whole (inr w) = days-each _ Never-below-zero (λ j ms. holding ms (aref-of d) j ≡ 0) (start-of d) (length-of d)
-            (λ j ms lo hi p. nbz-post ms p t Superseded (aref-of d) (r .aref) j (holding ms (aref-of d) j) (omega arith))
+            (λ j ms lo hi p. solvent-post ms p t Superseded (aref-of d) (r .aref) j (holding ms (aref-of d) j) (omega arith))
             (λ j ms p. omega (arith, from-post ms p t Superseded (aref-of d) (r .aref) j (holding ms (aref-of d) j) (omega arith) (omega arith) refl))
             (λ i j ms p g. omega (arith, later-superseded t (aref-of d) j (holding ms (aref-of d) j) ms p (omega arith) .less (aref-of d) i ne))
             ls f k (w .0) (w .1)

@@ -56,8 +56,8 @@ unfolding out-of
 out-of-push x k [] l = omega arith
 out-of-push x k (y ∷ ys) l = let h = out-of-push x k ys l in omega arith
 
-pub nbz-push : (ls : List Line) (l : Line) → Never-below-zero ls → ((k : ℕ) (x : Account) → 0 < sort x → out-of x k ls + takes x k l ≤ into x k ls) → Never-below-zero (ls ++ l ∷ [])
-nbz-push ls l h paid n k x p = go (cases-lt (length ls) n)
+pub solvent-push : (ls : List Line) (l : Line) → Never-below-zero ls → ((k : ℕ) (x : Account) → 0 < sort x → out-of x k ls + takes x k l ≤ into x k ls) → Never-below-zero (ls ++ l ∷ [])
+solvent-push ls l h paid n k x p = go (cases-lt (length ls) n)
   where
     go : (length ls < n) ⊎ (n ≤ length ls) → out-of x k (take n (ls ++ l ∷ [])) ≤ into x k (take n (ls ++ l ∷ []))
     go (inl q) =
@@ -76,7 +76,7 @@ takes-le x k l B h = go (cases-bool (eqb (l .day) k && same x (source l)))
     go (inr e) = rw e (omega arith)
 
 pub record Fine (n : ℕ) (p : ℕ → ℕ) (ls : List Line) : Type 0 where
-  pub nbz : Never-below-zero ls
+  pub solvent : Never-below-zero ls
   pub names : All (λ l. (l .a < n) × (l .b < n)) ls
   pub whole : (k : ℕ) → brought ls k ≡ p k
 
@@ -91,7 +91,7 @@ module _ (n : ℕ) (p : ℕ → ℕ) where
   pub fine-push : (ls : List Line) (l : Line) → Fine n p ls → l .mw ≤ balance ls (source l) (l .day) → 0 < sort (source l) → l .a < n → l .b < n → Fine n p (ls ++ l ∷ [])
   unfolding balance
   fine-push ls l f m r a b = record {
-    nbz = nbz-push ls l (f .nbz) (λ k x q. omega (arith, never-overdrawn ls (f .nbz) k x q, takes-le x k l (balance ls) m));
+    solvent = solvent-push ls l (f .solvent) (λ k x q. omega (arith, never-overdrawn ls (f .solvent) k x q, takes-le x k l (balance ls) m));
     names = all-push _ ls l (f .names) (a, b);
     whole = λ k. out-of-push outside k ls l ∙ (rw not-outside (rw cond-never (omega (arith, f .whole k))));
   }
@@ -110,4 +110,4 @@ module _ (n : ℕ) (p : ℕ → ℕ) where
   fine-days f h s (suc d) ls g = fine-days f h (suc s) d (f s ls) (h s ls g)
 
 pub fine-wider : (n m : ℕ) (p : ℕ → ℕ) (ls : List Line) → n ≤ m → Fine n p ls → Fine m p ls
-fine-wider n m p ls h f = record { nbz = f .nbz; whole = f .whole; names = all-weaker _ _ (λ l q. omega arith) ls (f .names) }
+fine-wider n m p ls h f = record { solvent = f .solvent; whole = f .whole; names = all-weaker _ _ (λ l q. omega arith) ls (f .names) }

@@ -147,7 +147,7 @@ low-places (suc n) = (omega arith, low-places n)
 fine-opened : (days : Days) → Fine 1 (posted-on days) (postings 0 (days .amounts))
 fine-opened days =
     let P = postings 0 (days .amounts) in let only = postings-only 0 (days .amounts) in
-    record { nbz = posting-solvent P only; names = posting-names P only; whole = postings-bring (days .amounts) }
+    record { solvent = posting-solvent P only; names = posting-names P only; whole = postings-bring (days .amounts) }
 
 pub sound-opened : (days : Days) (places room : ℕ) → Sound (posted-on days) (opened days places room)
 sound-opened days places room = record { fine = fine-opened days; low = low-places places }

@@ -84,14 +84,14 @@ module _ (R : Rules) (L : Lawful R) (p : ℕ → ℕ) (v : View) (I : Right p v)
       let P : List Line → List Entry → Type 0 = λ ls es. (v .top < r .aref) × Writes (Fact r (v .lines) (Preemption.defenders R t r v)) (v .lines) ls in
       holds-stop P _ _ _ (λ above.
       let up : v .top < r .aref = leb-false (r .aref) (v .top) above in
-      let g = writes-grant R t r (v .lines) (Preemption.defenders R t r v) (r .start) (r .length) (v .lines) (I .sound .fine .nbz) in
+      let g = writes-grant R t r (v .lines) (Preemption.defenders R t r v) (r .start) (r .length) (v .lines) (I .sound .fine .solvent) in
       let D = defenders-stand R v (I .whole) (I .sound .low) t r up in
       holds-stop P _ _ _ (λ _. holds-stop P _ _ _ (λ _. holds-stop P _ _ _ (λ _.
       holds-if P _ _ _ (λ _. holds P _ _ _ _ (up, g)) (λ _. holds-stop P _ _ _ (λ _.
       holds-if P _ _ _ (λ _. holds P _ _ _ _ (
         up,
         writes-preempt R t r (v .lines) (Preemption.defenders R t r v) (r .start) (r .length)
-            (all-weaker _ _ (λ d h (q : aref-of d ≡ r .aref). h .2 (sym q)) (Preemption.defenders R t r v) D) (v .lines) ([], sym (append-nil (v .lines))) (I .sound .fine .nbz)
+            (all-weaker _ _ (λ d h (q : aref-of d ≡ r .aref). h .2 (sym q)) (Preemption.defenders R t r v) D) (v .lines) ([], sym (append-nil (v .lines))) (I .sound .fine .solvent)
             (all-weaker _ _ (λ d h k q. let w = subst (λ e. Holding e k) (h .0) (I .whole .supp .holds (aref-of d) k q) in (w .1, w .2)) (Preemption.defenders R t r v) D),
       )) (λ _.
       holds-stop P _ _ _ (λ _. holds P _ _ _ Offered (up, g)))))))))

@@ -119,7 +119,7 @@ preempts-in-closed-form R L p v I terms t r up = go (pending-come-first R L (def
     go : Split R L (defenders R t r v) → preempt R t r v ≡ v .lines ++ preemption-lines R t r v
     go S = subst (λ ds. give-all R t r ds (by-day (grant t r) (r .start) (r .length) (supersede-all t r ds (v .lines)))
         ≡ v .lines ++ (superseded-lines t r (v .lines) [] ds ++ (lines-by-day t Granted 0 (r .aref) (granted-on r (v .lines) ds) (r .start) (r .length) ++ given-lines R t r (v .lines) [] ds))) (sym (S .whole))
-        (visits-closed R t r (v .lines) (I .sound .fine .nbz) none (S .ps) (S .cs) (S .first) (S .then) (subst Different (S .whole) apart) (subst (All (Faces r (v .lines))) (S .whole) faces))
+        (visits-closed R t r (v .lines) (I .sound .fine .solvent) none (S .ps) (S .cs) (S .first) (S .then) (subst Different (S .whole) apart) (subst (All (Faces r (v .lines))) (S .whole) faces))
 
 pub closed-form : Closed-form
 closed-form R L days places room calls t r checked up =

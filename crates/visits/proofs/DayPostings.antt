@@ -14,7 +14,7 @@ use Rattle.journal.specs.Accounts.{Account, sort, same, from, to, balance, Neve
 use Rattle.law.specs.Posting.{post, by-day}
 use Rattle.law.specs.Preemption.{taken, brings-challenger}
 use Rattle.law.proofs.PostingEffects.{balance-post, day-post, taken-post}
-use Rattle.law.proofs.Holders.{nbz-post}
+use Rattle.law.proofs.Holders.{solvent-post}
 use Rattle.visits.specs.ClosedForm.{lines-by-day}
 
 -- on a day nothing has changed: neither what stands in an account nor what was taken for a challenger
@@ -71,7 +71,7 @@ module _ (t : ℕ) (κ : LineKind) (a b : ℕ) (real : 0 < sort (from κ a b)) (
   }
   days-move s (suc n) ms fine paid reads =
       let at-s : f s ms ≡ mw s = reads s (omega arith) (omega arith) ms (record { stands = λ x q. refl; taken-stands = refl }) in
-      rw at-s (done (days-move (suc s) n (post t κ a b s (mw s) ms) (nbz-post ms fine t κ a b s (mw s) (paid s (omega arith) (omega arith)))
+      rw at-s (done (days-move (suc s) n (post t κ a b s (mw s) ms) (solvent-post ms fine t κ a b s (mw s) (paid s (omega arith) (omega arith)))
       (λ k lo hi. let o = off k lo in let p = paid k (omega arith) (omega arith) in omega (arith, o .stands (from κ a b) real))
       (λ k lo hi ns st. reads k (omega arith) (omega arith) ns (day-stands-trans b k ms _ ns (off k lo) st))))
     where
