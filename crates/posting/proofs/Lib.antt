@@ -1,0 +1,4 @@
+pub mod OnePlace
+pub mod ShownPut
+pub mod TwoPuts
+pub mod OneLine
