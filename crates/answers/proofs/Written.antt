@@ -1,6 +1,6 @@
 -- What is answered once a call has made its lines: refused where they do not fit, else done.
 use Rattle.std.proofs.Common.{◌≡◌, ℕ, ◌+◌, ◌-◌, ◌<◌, ◌≤◌, Bool, true, false, cond, ltb, List, length, sym, refl, ap, ◌∙◌, arith}
-use Rattle.std.proofs.lemmas.Bool.{lt-ltb, le-ltb, cond-true, cond_false}
+use Rattle.std.proofs.lemmas.Bool.{lt-ltb, le-ltb, cond-true, cond-false}
 use Rattle.terms.specs.declared.refusal.Refusal.TheVariants.{JournalFull}
 use Rattle.terms.specs.declared.words.State.{State}
 use Rattle.journal.specs.declared.line.Line.{Line}
@@ -19,4 +19,4 @@ module _ (c : Call) (v : View) (ls : List Line) (es : List Entry) (a : ℕ) (s :
       written c v (makes ls es a s) ≡ (done a s first count, book_after v ls es (minute_of c) (new_top c v.top))
   written_done h first count e f =
       let n : length ls - length v.lines ≡ count = omega arith in
-      cond_false (ltb v.room (length ls)) _ _ (le-ltb _ _ h) ∙ ap (λ (x : Answer). (x, book_after v ls es (minute_of c) (new_top c v.top))) (ap (λ (i : ℕ). done a s i (length ls - length v.lines)) (sym e) ∙ ap (λ (i : ℕ). done a s first i) n)
+      cond-false (ltb v.room (length ls)) _ _ (le-ltb _ _ h) ∙ ap (λ (x : Answer). (x, book_after v ls es (minute_of c) (new_top c v.top))) (ap (λ (i : ℕ). done a s i (length ls - length v.lines)) (sym e) ∙ ap (λ (i : ℕ). done a s first i) n)

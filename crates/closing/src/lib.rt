@@ -21,7 +21,7 @@ fn due_of<S: RuleSheet>(sheet: &S, minute: u32, standing: &Standing) -> u32
     requires possible { Possible standing.now.request }
     requires early { minute ≤ 1000000 }
     requires inside { standing.now.request.start + standing.now.request.length ≤ 400 }
-    ensures { result ≡ due_of (S.RuleSheet.rules sheet.now) minute standing.now }
+    ensures { result ≡ due_of (S.rules sheet.now) minute standing.now }
 {
     if standing.state.is_pending() {
         minute + sheet.confirm_time(standing)
@@ -64,7 +64,7 @@ pub fn close_if_last<S: RuleSheet>(desk: &mut Desk, sheet: &S, minute: u32, agai
     requires terms { All (Termed (view desk.old).days) (view desk.old).places }
     requires early { minute ≤ 1000000 }
     ensures midway { Midway desk.new }
-    ensures view { view desk.new ≡ with_places (view desk.old) (close_if_last (S.RuleSheet.rules sheet.now) minute (view desk.old).lines against (view desk.old).places) }
+    ensures view { view desk.new ≡ with_places (view desk.old) (close_if_last (S.rules sheet.now) minute (view desk.old).lines against (view desk.old).places) }
 {
     if let Some(j) = closes_at(desk, against) {
         let mut standing = desk.places[j].standing;

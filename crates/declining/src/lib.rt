@@ -83,7 +83,7 @@ pub fn decline_at<S: RuleSheet>(
     requires lives { living (slice_index_or (view desk.old).places i nobody) ≡ true }
     requires early { minute ≤ 1000000 }
     ensures shown { Showing desk.new }
-    ensures says { Writes (view desk.old) minute (declined (S.RuleSheet.rules sheet.now) minute (slice_index_or (view desk.old).places i nobody) (view desk.old)) (told result) (view desk.new) }
+    ensures says { Writes (view desk.old) minute (declined (S.rules sheet.now) minute (slice_index_or (view desk.old).places i nobody) (view desk.old)) (told result) (view desk.new) }
 {
     let first = desk.used;
     let request = desk.places[i].standing.request;

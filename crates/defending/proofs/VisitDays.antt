@@ -1,6 +1,6 @@
 -- A visit, day by day of the request's term.
 use Rattle.std.proofs.Common.{◌≡◌, ℕ, ◌+◌, ◌-◌, ◌<◌, ◌≤◌, min, true, false, ◌&&◌, ltb, leb, ◌⊎◌, List, length, get_or, set, sym, ap, ◌∙◌, inl, inr, arith}
-use Rattle.std.proofs.lemmas.Bool.{and_parts, and_from, leb-true, le-leb, ltb-true, lt-ltb, cond-true, cond_false, cases_Bool}
+use Rattle.std.proofs.lemmas.Bool.{and_parts, and_from, leb-true, le-leb, ltb-true, lt-ltb, cond-true, cond-false, cases_Bool}
 use Rattle.terms.specs.declared.request.Request.{Request}
 use Rattle.law.specs.Posting.{busy_days}
 use Rattle.desk.specs.declared.record.Record.{Record}
@@ -22,7 +22,7 @@ short_in_term r amounts day h = go (cases_Bool (leb r.start day && ltb day (r.st
   where
     go : ((leb r.start day && ltb day (r.start + r.length)) ≡ true) ⊎ ((leb r.start day && ltb day (r.start + r.length)) ≡ false) → (r.start ≤ day) × (day < r.start + r.length)
     go (inl e) = let w = and_parts (leb r.start day) (ltb day (r.start + r.length)) e in (leb-true _ _ w.0, ltb-true _ _ w.1)
-    go (inr e) = let z : ⊥ = omega (arith, cond_false _ (get_or amounts (day - r.start) 0) 0 e) in absurd z
+    go (inr e) = let z : ⊥ = omega (arith, cond-false _ (get_or amounts (day - r.start) 0) 0 e) in absurd z
 
 -- a record that holds nothing outside its own term gives on its own days alone
 pub own_days : (one : Record) (r : Request) (amounts : List ℕ) → HoldsInTerm one →

@@ -1,7 +1,7 @@
 -- What a desk keeps is a proposition, so it comes out of the book's ghost field whole.
 use Rattle.std.proofs.Common.{◌≡◌, ℕ, suc, ◌+◌, ◌<◌, ◌≤◌, true, cond, List, [], ◌∷◌, length, get_or}
 use mathlib.Core.Logic.{∥∥₁_elim}
-use denote.Struct.Props.{props, three_prop}
+use denote.Struct.Props.{props}
 use std.HLevel.{Π_prop}
 use Rattle.std.specs.List.{AllByRecursion as All}
 use Rattle.terms.specs.Days.{Days}
@@ -20,11 +20,14 @@ all_prop : {X : Type 0} (P : X → Type 0) → ((x : X) → IsProp (P x)) → (x
 all_prop P h [] p q = λ i. tt
 all_prop P h (x ∷ xs) p q = λ i. (h x p.0 q.0 i, all_prop P h xs p.1 q.1 i)
 
+three_prop : {A B C : Type 0} → IsProp A → IsProp B → IsProp C → IsProp (A × B × C)
+three_prop a b c p q = λ i. (a p.0 q.0 i, b p.1 q.1 i, c p.2 q.2 i)
+
 two_prop : {A B : Type 0} → IsProp A → IsProp B → IsProp (A × B)
 two_prop a b p q = λ i. (a p.0 q.0 i, b p.1 q.1 i)
 
 in_term_prop : (e : Entry) (day : ℕ) → IsProp (InTerm e day)
-in_term_prop e day = three_prop (hlevel props) (hlevel props) (hlevel props)
+in_term_prop e day = hlevel props
 
 solvent_prop : (ls : List Line) → IsProp (NeverBelowZero ls)
 solvent_prop ls = hlevel props
@@ -33,7 +36,7 @@ names_prop : (n : ℕ) (ls : List Line) → IsProp (NamesBelow n ls)
 names_prop n ls = all_prop (λ l. (l.a < n) × (l.b < n)) (λ l. two_prop (hlevel props) (hlevel props)) ls
 
 termed_prop : (days : Days) (e : Entry) → IsProp (Termed days e)
-termed_prop days e = three_prop (hlevel props) (hlevel props) (hlevel props)
+termed_prop days e = hlevel props
 
 module _ (v : View) where
   posted_prop : IsProp ((day : ℕ) → brought v.lines day ≡ posted_on v.days day)

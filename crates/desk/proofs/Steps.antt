@@ -2,7 +2,7 @@
 use Rattle.std.proofs.Common.{◌≡◌, ℕ, ◌+◌, ◌<◌, ◌≤◌, true, false, cond, ◌&&◌, ltb, leb, ◌⊎◌, List, [], ◌∷◌, ◌++◌, length, get_or, take, drop, set, sym, refl, ap, ◌∙◌, inl, inr, append_assoc, add-one, arith}
 use Rattle.std.proofs.lemmas.List.{drop_more, drop_all, take_more_set, drop-set-lt, drop-drop}
 use Rattle.std.proofs.lemmas.List.Sums.{sum_by-cons}
-use Rattle.std.proofs.lemmas.Bool.{lt-ltb, le-ltb, le-leb, lt-leb, and_left, and_right, cond-true, cond_false}
+use Rattle.std.proofs.lemmas.Bool.{lt-ltb, le-ltb, le-leb, lt-leb, and_left, and_right, cond-true, cond-false}
 use Rattle.journal.specs.declared.line.Line.{Line}
 use Rattle.journal.specs.declared.line.LineKind.TheVariants.{Posted}
 use Rattle.law.specs.Opened.{postings}
@@ -42,7 +42,7 @@ module _ (amounts : List ℕ) (day : ℕ) where
   posted_here h p = postings_more h ∙ cond-true _ _ _ (lt-ltb _ _ p)
 
   pub unposted_here : day < length amounts → get_or amounts day 0 ≤ 0 → postings day (drop day amounts) ≡ postings (day + 1) (drop (day + 1) amounts)
-  unposted_here h p = postings_more h ∙ cond_false _ _ _ (le-ltb _ _ p)
+  unposted_here h p = postings_more h ∙ cond-false _ _ _ (le-ltb _ _ p)
 
 -- a line written at the end moves the first of what is to come to what is written
 pub written_one : (lines rest : List Line) (used : ℕ) (x : Line) → used < length lines → take (used + 1) (set lines used x) ++ rest ≡ take used lines ++ (x ∷ rest)

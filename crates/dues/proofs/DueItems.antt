@@ -1,7 +1,7 @@
 -- The items that are due, lined up on a shelf: the first to come off is the earliest.
 use Rattle.std.proofs.Common.{◌≡◌, ℕ, zero, suc, ◌+◌, ◌-◌, ◌<◌, ◌≤◌, Bool, true, false, cond, ◌⊎◌, List, [], ◌∷◌, map, length, get_or, drop, filter, sym, refl, ap, ◌∙◌, subst, inl, inr, arith}
 use Rattle.std.proofs.lemmas.List.{drop_more, drop_all}
-use Rattle.std.proofs.lemmas.Bool.{cases_Bool, cond-true, cond_false, or_parts, or_from, or_left, or_right}
+use Rattle.std.proofs.lemmas.Bool.{cases_Bool, cond-true, cond-false, or_parts, or_from, or_left, or_right}
 use Rattle.shelf.specs.declared.due.Due.{Due}
 use Rattle.shelf.specs.Due.{sooner as comes-sooner}
 use Rattle.shelf.specs.Order.{put}
@@ -96,7 +96,7 @@ module _ (minute i : ℕ) (e : Entry) (es : List Entry) where
           named = h.named;
           there = record { within = omega (arith, h.there.within); first = with_others h.back h.there ∙ cond-true (sooner m e) m e q; due = h.there.due };
         })
-        go (inr q) = rw (cond_false (comes-sooner x (item i e)) (x ∷ put comes-sooner xs (item i e)) (item i e ∷ (x ∷ xs)) (same ∙ q)) (here (with_others h.back h.there ∙ cond_false (sooner m e) m e q))
+        go (inr q) = rw (cond-false (comes-sooner x (item i e)) (x ∷ put comes-sooner xs (item i e)) (item i e ∷ (x ∷ xs)) (same ∙ q)) (here (with_others h.back h.there ∙ cond-false (sooner m e) m e q))
 
 length-put : {T : Type 0} (before : T → T → Bool) (xs : List T) (x : T) → length (put before xs x) ≡ length xs + 1
 length-put before [] x = refl

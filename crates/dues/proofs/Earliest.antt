@@ -1,6 +1,6 @@
 -- The earliest of some items: taken from the front or from the back, it is the same.
 use Rattle.std.proofs.Common.{◌≡◌, ℕ, ◌<◌, ◌≤◌, Bool, true, false, cond, eqb, ltb, ◌⊎◌, List, [], ◌∷◌, filter, sym, refl, ap, ◌∙◌, inl, inr, arith}
-use Rattle.std.proofs.lemmas.Bool.{cases_Bool, cond-true, cond_false}
+use Rattle.std.proofs.lemmas.Bool.{cases_Bool, cond-true, cond-false}
 use Rattle.std.proofs.lemmas.Bool.Decides.{nat_tests}
 use Rattle.law.specs.View.{Entry, aref_of}
 use Rattle.law.specs.Calls.{sooner, earliest, is_due, first_due}
@@ -21,9 +21,9 @@ regroup a b c = go (cases_Bool (sooner b a)) (cases_Bool (sooner c b))
   where
     go : (sooner b a ≡ true) ⊎ (sooner b a ≡ false) → (sooner c b ≡ true) ⊎ (sooner c b ≡ false) → sooner_of (sooner_of a b) c ≡ sooner_of a (sooner_of b c)
     go (inl p) (inl q) = rw (cond-true (sooner b a) b a p, cond-true (sooner c b) c b q, cond-true (sooner c a) c a (in_line c b a q p)) refl
-    go (inl p) (inr q) = rw (cond-true (sooner b a) b a p, cond_false (sooner c b) c b q, cond-true (sooner b a) b a p) refl
-    go (inr p) (inl q) = rw (cond_false (sooner b a) b a p, cond-true (sooner c b) c b q) refl
-    go (inr p) (inr q) = rw (cond_false (sooner b a) b a p, cond_false (sooner c b) c b q, cond_false (sooner b a) b a p, cond_false (sooner c a) c a (not_in_line c b a q p)) refl
+    go (inl p) (inr q) = rw (cond-true (sooner b a) b a p, cond-false (sooner c b) c b q, cond-true (sooner b a) b a p) refl
+    go (inr p) (inl q) = rw (cond-false (sooner b a) b a p, cond-true (sooner c b) c b q) refl
+    go (inr p) (inr q) = rw (cond-false (sooner b a) b a p, cond-false (sooner c b) c b q, cond-false (sooner b a) b a p, cond-false (sooner c a) c a (not_in_line c b a q p)) refl
 
 pub earliest_after : (a b : Entry) (es : List Entry) → earliest (sooner_of a b) es ≡ sooner_of a (earliest b es)
 unfolding earliest

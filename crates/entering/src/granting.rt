@@ -29,7 +29,7 @@ pub fn new_record<S: RuleSheet>(sheet: &S, minute: u32, request: &Request, state
     requires possible { Possible request.now }
     requires early { minute ≤ 1000000 }
     requires inside { request.now.start + request.now.length ≤ 400 }
-    ensures { NewRecord (S.RuleSheet.rules sheet.now) minute request.now state result }
+    ensures { NewRecord (S.rules sheet.now) minute request.now state result }
 {
     let standing = Standing {
         request: *request,
@@ -65,7 +65,7 @@ pub fn enter<S: RuleSheet>(
     requires lives { is_living state ≡ true }
     ensures shown { Showing desk.new }
     ensures says { (told result, view desk.new) ≡ written (submitting minute request.now) (view desk.old)
-        (entered (S.RuleSheet.rules sheet.now) minute request.now state
+        (entered (S.rules sheet.now) minute request.now state
         (by_day (grant minute request.now) request.now.start request.now.length (view desk.old).lines)
         (view desk.old).places) }
 {

@@ -33,7 +33,7 @@ pub fn find(challenger: &Request, defender: &Standing, minute: u32, posted: &Pos
 
 // A record's turn among others: one more than how many give before it.
 pub fn turn_among<S: RuleSheet>(sheet: &S, one: &Standing, records: &[Standing]) -> usize
-    ensures { result ≡ count_by (λ other. (rules sheet.now).gives_before other one.now) records.now + 1 }
+    ensures { result ≡ count_by (λ other. (S.rules sheet.now).gives_before other one.now) records.now + 1 }
 {
     let mut before = 0;
     for other in records {

@@ -78,7 +78,7 @@ pub fn decline<S: RuleSheet>(
 ) -> Result<Done, Refusal>
     requires { Sound desk.old }
     ensures shown { Showing desk.new }
-    ensures says { (told result, view desk.new) ≡ step (S.RuleSheet.rules sheet.now) (declining minute aref) (view desk.old) }
+    ensures says { (told result, view desk.new) ≡ step (S.rules sheet.now) (declining minute aref) (view desk.old) }
 {
     match by_aref(desk, minute, aref, MustBe::Challenged) {
         Err(refusal) => Err(refusal),

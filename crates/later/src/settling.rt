@@ -38,7 +38,7 @@ fn settle_at<S: RuleSheet>(
     requires within { i < length desk.old.places.now }
     requires early { minute ≤ 1000000 }
     ensures shown { Showing desk.new }
-    ensures says { Writes (view desk.old) minute (settles (S.RuleSheet.rules sheet.now) minute (slice_index_or (view desk.old).places i nobody) (view desk.old) (get_or (view desk.old).places i nobody).standing.state) (told result) (view desk.new) }
+    ensures says { Writes (view desk.old) minute (settles (S.rules sheet.now) minute (slice_index_or (view desk.old).places i nobody) (view desk.old) (get_or (view desk.old).places i nobody).standing.state) (told result) (view desk.new) }
 {
     let state = desk.places[i].standing.state;
     match state {
@@ -53,7 +53,7 @@ fn settle_at<S: RuleSheet>(
 pub fn settle<S: RuleSheet>(desk: &mut Desk, sheet: &S, minute: u32) -> Result<Done, Refusal>
     requires { Sound desk.old }
     ensures shown { Showing desk.new }
-    ensures says { (told result, view desk.new) ≡ step (S.RuleSheet.rules sheet.now) (settling minute) (view desk.old) }
+    ensures says { (told result, view desk.new) ≡ step (S.rules sheet.now) (settling minute) (view desk.old) }
 {
     if let Err(refusal) = begin(desk, minute, true) {
         return Err(refusal);

@@ -2,7 +2,7 @@
 use Rattle.std.proofs.Common.{◌≡◌, ℕ, zero, suc, ◌+◌, ◌-◌, ◌<◌, ◌≤◌, min, Bool, true, false, cond, not, ◌&&◌, ◌||◌, eqb, ltb, leb, ◌⊎◌, List, [], ◌∷◌, ◌++◌, map, length, sym, refl, ap, ◌∙◌, subst, inl, inr, append_assoc, append-nil, arith}
 use Rattle.std.specs.List.{AllByRecursion as All}
 use Rattle.std.proofs.lemmas.List.{append_cancel_left}
-use Rattle.std.proofs.lemmas.Bool.{cases_Bool, cases_eq, cases_lt, eqb-true, or_left, or_right, or_cases, false≢true, cond-true, cond_false, not-false, not_from_true, and_from, ne_eqb, eq-eqb, leb-true, leb-false, le-leb, lt-ltb, le-ltb, ltb-false, and_parts}
+use Rattle.std.proofs.lemmas.Bool.{cases_Bool, cases_eq, cases_lt, eqb-true, or_left, or_right, or_cases, false≢true, cond-true, cond-false, not-false, not_from_true, and_from, ne_eqb, eq-eqb, leb-true, leb-false, le-leb, lt-ltb, le-ltb, ltb-false, and_parts}
 use Rattle.terms.specs.declared.refusal.Refusal.{Refusal}
 use Rattle.terms.specs.declared.request.Request.{Request}
 use Rattle.terms.specs.declared.words.State.TheVariants.{Confirmed, Offered, Competing}
@@ -143,7 +143,7 @@ module _ (t : ℕ) (r : Request) where
       whole = by_day (λ day ms. post t Superseded (aref_of d) r.aref day (holding ms (aref_of d) day) ms) (start_of d) (length_of d) ls
 
       go : (meets_shortage r d ls ≡ true) ⊎ (meets_shortage r d ls ≡ false) → ((supersede t r d ls ≡ ls) × (meets_shortage r d ls ≡ false)) ⊎ GaveWaySince ls (supersede t r d ls)
-      go (inr q) = inl (cond_false _ _ _ q, q)
+      go (inr q) = inl (cond-false _ _ _ q, q)
       go (inl q) = pick (daily_gave t Superseded (aref_of d) r.aref (λ day ms. holding ms (aref_of d) day) (start_of d) (length_of d) ls refl)
         where
           pick : ((whole ≡ ls) × ((k : ℕ) → start_of d ≤ k → k < start_of d + length_of d → holding ls (aref_of d) k ≡ 0)) ⊎ GaveWaySince ls whole → ((supersede t r d ls ≡ ls) × (meets_shortage r d ls ≡ false)) ⊎ GaveWaySince ls (supersede t r d ls)
@@ -266,7 +266,7 @@ taken_none b k n (l ∷ ls) h names =
 
 passes : (stops : Bool) (e : Refusal) (m : Made) → stops ≡ false → stop_if stops e m ≡ m
 unfolding stop_if
-passes stops e m h = cond_false stops (refused e) m h
+passes stops e m h = cond-false stops (refused e) m h
 
 goes_in : (test : Bool) (x y : Made) → test ≡ true → if_so test x y ≡ x
 unfolding if_so
@@ -274,7 +274,7 @@ goes_in test x y h = cond-true test x y h
 
 goes_on : (test : Bool) (x y : Made) → test ≡ false → if_so test x y ≡ y
 unfolding if_so
-goes_on test x y h = cond_false test x y h
+goes_on test x y h = cond-false test x y h
 
 -- The two directions.
 module _ (R : Rules) (p : ℕ → ℕ) (v : View) (I : Right p v) (t : ℕ) (r : Request) where

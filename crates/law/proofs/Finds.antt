@@ -2,7 +2,7 @@
 use Rattle.std.proofs.Common.{◌≡◌, ℕ, zero, suc, ◌+◌, ◌-◌, ◌<◌, ◌≤◌, Bool, true, false, cond, eqb, ◌≢◌, ◌⊎◌, List, [], ◌∷◌, map, replicate, refl, ap, ◌∙◌, inl, inr, arith}
 use Rattle.std.specs.List.{AllByRecursion as All}
 use Rattle.std.proofs.ByRecursion.{All-weaker}
-use Rattle.std.proofs.lemmas.Bool.{eq-eqb, ne_eqb, eqb-true, cases_Bool, and_parts, and_left, and_right, and_from, false≢true, not-true, and_cases, cond-true, cond_false}
+use Rattle.std.proofs.lemmas.Bool.{eq-eqb, ne_eqb, eqb-true, cases_Bool, and_parts, and_left, and_right, and_from, false≢true, not-true, and_cases, cond-true, cond-false}
 use Rattle.terms.specs.Words.{is_gone}
 use Rattle.law.specs.View.{Entry, aref_of, is, living, find, nobody, count}
 use Rattle.law.specs.Places.{seat, some}
@@ -85,7 +85,7 @@ module _ (x : Entry) where
 
       go : find a (seat x es) ≡ find a es → (living e ≡ true) ⊎ (living e ≡ false) → find a (cond (living e) (e ∷ seat x es) (x ∷ es)) ≡ cond (is a e) e (find a es)
       go ih (inl q) = rw (cond-true (living e) (e ∷ seat x es) (x ∷ es) q) (ap (λ f. cond (is a e) e f) ih)
-      go ih (inr q) = rw (cond_false (living e) (e ∷ seat x es) (x ∷ es) q, no, cond_false (is a e) e (find a es) (and_left (living e) (eqb (aref_of e) a) q)) refl
+      go ih (inr q) = rw (cond-false (living e) (e ∷ seat x es) (x ∷ es) q, no, cond-false (is a e) e (find a es) (and_left (living e) (eqb (aref_of e) a) q)) refl
 
   pub find-seat : (es : List Entry) → living x ≡ true → some (λ e. is_gone e.standing.state) es ≡ true → count (aref_of x) es ≡ 0 → find (aref_of x) (seat x es) ≡ x
   unfolding find seat some count
@@ -98,7 +98,7 @@ module _ (x : Entry) where
       go : (some (λ e. is_gone e.standing.state) es ≡ true → count (aref_of x) es ≡ 0 → find (aref_of x) (seat x es) ≡ x) → (living e ≡ true) ⊎ (living e ≡ false) → (is (aref_of x) e ≡ true) ⊎ (is (aref_of x) e ≡ false) → find (aref_of x) (cond (living e) (e ∷ seat x es) (x ∷ es)) ≡ x
       go ih (inl q) (inl w) = let z = rw w at c in let b : ⊥ = omega arith in absurd b
       go ih (inl q) (inr w) = rw (cond-true (living e) (e ∷ seat x es) (x ∷ es) q, w) (ih (rw (not-true (is_gone e.standing.state) q) at s) (let z = rw w at c in omega arith))
-      go ih (inr q) w = rw (cond_false (living e) (e ∷ seat x es) (x ∷ es) q, yes') refl
+      go ih (inr q) w = rw (cond-false (living e) (e ∷ seat x es) (x ∷ es) q, yes') refl
 
   pub count-seat : (a : ℕ) (es : List Entry) → count a (seat x es) ≤ cond (is a x) 1 0 + count a es
   unfolding count seat
@@ -107,7 +107,7 @@ module _ (x : Entry) where
     where
       go : count a (seat x es) ≤ cond (is a x) 1 0 + count a es → (living e ≡ true) ⊎ (living e ≡ false) → count a (cond (living e) (e ∷ seat x es) (x ∷ es)) ≤ cond (is a x) 1 0 + (cond (is a e) 1 0 + count a es)
       go ih (inl q) = rw (cond-true (living e) (e ∷ seat x es) (x ∷ es) q) (omega arith)
-      go ih (inr q) = rw (cond_false (living e) (e ∷ seat x es) (x ∷ es) q) (omega arith)
+      go ih (inr q) = rw (cond-false (living e) (e ∷ seat x es) (x ∷ es) q) (omega arith)
 
 pub count-nobody : (a n : ℕ) → count a (replicate n nobody) ≡ 0
 unfolding count

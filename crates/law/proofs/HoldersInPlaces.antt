@@ -1,6 +1,6 @@
 -- Whoever holds MW stands in the places, and holds them in its term; what is set aside is set aside of a challenged record for its challenger.
 use Rattle.std.proofs.Common.{◌≡◌, ℕ, ◌+◌, ◌-◌, ◌<◌, ◌≤◌, Bool, true, false, cond, eqb, ◌⊎◌, List, map, sym, refl, ap, ◌∙◌, subst, inl, inr}
-use Rattle.std.proofs.lemmas.Bool.{eq-eqb, ne_eqb, eqb-true, cases_eq, cases_Bool, and_parts, and_from, and_right, false≢true, cond-true, cond_false}
+use Rattle.std.proofs.lemmas.Bool.{eq-eqb, ne_eqb, eqb-true, cases_eq, cases_Bool, and_parts, and_from, and_right, false≢true, cond-true, cond-false}
 use Rattle.terms.specs.declared.words.State.{State}
 use Rattle.terms.specs.declared.words.State.TheVariants.{Confirmed, Accepted, Offered, Competing, Challenged, Gone}
 use Rattle.terms.specs.Words.{is_pending, is_confirmed, is_challenged, is_competing}
@@ -52,7 +52,7 @@ tame_change a f h = record { same_aref = λ e. one e (is a e) refl; stays_gone =
 
     two : (e : Entry) → living e ≡ false → (is a e ≡ true) ⊎ (is a e ≡ false) → living (cond (is a e) (f e) e) ≡ false
     two e l (inl q) = absurd (false≢true (sym l ∙ (and_parts (living e) (eqb (aref_of e) a) q).0))
-    two e l (inr q) = rw (cond_false (is a e) (f e) e q) l
+    two e l (inr q) = rw (cond-false (is a e) (f e) e q) l
 
 -- is a (find c es): a is c
 pub is_find : (a c : ℕ) (es : List Entry) → living (find c es) ≡ true → (a ≡ c → ⊥) → is a (find c es) ≡ false
@@ -73,8 +73,8 @@ module _ (H : ℕ → ℕ → Type 0) (A : ℕ → ℕ → ℕ → Type 0) (a₀
         u.0.0.0.0,
         u.0.1.0.0,
         (
-          subst (λ e. Siding e b k) (sym (cond_false (is a₀ (find a es)) (f (find a es)) (find a es) (is_find a₀ a es u.0.0.0.0 u.1))) u.0.0,
-          subst (λ e. Facing e k) (sym (cond_false (is a₀ (find b es)) (f (find b es)) (find b es) (is_find a₀ b es u.0.1.0.0 u.2))) u.0.1,
+          subst (λ e. Siding e b k) (sym (cond-false (is a₀ (find a es)) (f (find a es)) (find a es) (is_find a₀ a es u.0.0.0.0 u.1))) u.0.0,
+          subst (λ e. Facing e k) (sym (cond-false (is a₀ (find b es)) (f (find b es)) (find b es) (is_find a₀ b es u.0.1.0.0 u.2))) u.0.1,
         ),
       )) p
     where
@@ -83,7 +83,7 @@ module _ (H : ℕ → ℕ → Type 0) (A : ℕ → ℕ → ℕ → Type 0) (a₀
           (let u = own k (subst (λ x. 0 < holding ls x k) (sym e) q) (subst (λ x. H x k) (sym e) w) in
           (u.0, subst (λ x. Holding x k) (sym (cond-true (is a₀ (find a₀ es)) (f (find a₀ es)) (find a₀ es) (is_found a₀ es u.0))) u.1))
       hold c k q w (inr ne) = let u = rest c k ne w in
-          (u.0, subst (λ x. Holding x k) (sym (cond_false (is a₀ (find c es)) (f (find c es)) (find c es) (is_find a₀ c es u.0 ne))) u)
+          (u.0, subst (λ x. Holding x k) (sym (cond-false (is a₀ (find c es)) (f (find c es)) (find c es) (is_find a₀ c es u.0 ne))) u)
 
 -- the kinds of state
 pub not_both : (s : State) → (is_pending s ≡ true) ⊎ (is_confirmed s ≡ true) → (is_challenged s ≡ false) × (is_competing s ≡ false)

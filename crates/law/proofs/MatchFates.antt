@@ -2,7 +2,7 @@
 use Rattle.std.proofs.Common.{◌≡◌, ℕ, suc, ◌+◌, ◌-◌, ◌*◌, ◌<◌, ◌≤◌, max, Bool, true, false, cond, not, ◌&&◌, eqb, ltb, ◌⊎◌, List, [], ◌∷◌, length, sym, refl, ap, ◌∙◌, subst, inl, inr, arith}
 use Rattle.std.specs.List.{AllByRecursion as All}
 use Rattle.std.proofs.ByRecursion.{All-weaker}
-use Rattle.std.proofs.lemmas.Bool.{eqb-true, cases_eq, and_parts, false≢true, leb-false, cond-true, cond_false, not-false, and_cases, ltb-false}
+use Rattle.std.proofs.lemmas.Bool.{eqb-true, cases_eq, and_parts, false≢true, leb-false, cond-true, cond-false, not-false, and_cases, ltb-false}
 use Rattle.law.specs.Calls
 use Rattle.law.specs.Places
 use Rattle.law.specs.Posting
@@ -39,7 +39,7 @@ use Rattle.law.proofs.QuietMatches.{quiet, lost_tally, kept_tally, extend_tally}
 
 find_other : (x : ℕ) (f : Entry → Entry) → ((e : Entry) → is x e ≡ true → aref_of (f e) ≡ x) → (es : List Entry) (c : ℕ) → living (find c es) ≡ true → (x ≡ c → ⊥) → find c (change x f es) ≡ find c es
 find_other x f named es c l ne =
-    let q = cond_false (is x (find c es)) (f (find c es)) (find c es) (is_find x c es l ne) in
+    let q = cond-false (is x (find c es)) (f (find c es)) (find c es) (is_find x c es l ne) in
     find-map (λ e. cond (is x e) (f e) e) (tame_change x f named) c es l (ap living q ∙ l) ∙ q
 
 find_same : (x : ℕ) (f : Entry → Entry) → ((e : Entry) → is x e ≡ true → aref_of (f e) ≡ x) → (es : List Entry) → living (find x es) ≡ true → living (f (find x es)) ≡ true → find x (change x f es) ≡ f (find x es)

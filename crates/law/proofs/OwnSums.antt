@@ -2,7 +2,7 @@
 use Rattle.std.proofs.Common.{◌≡◌, ℕ, suc, ◌+◌, ◌*◌, ◌<◌, ◌≤◌, Bool, true, false, cond, ◌&&◌, eqb, ◌⊎◌, List, [], ◌∷◌, sym, refl, ap, ◌∙◌, inl, inr, arith}
 use Rattle.std.specs.List.{AllByRecursion as All}
 use Rattle.std.proofs.ByRecursion.{All-weaker}
-use Rattle.std.proofs.lemmas.Bool.{eq-eqb, ne_eqb, cases_eq, cases_lt, cases_Bool, cond_false}
+use Rattle.std.proofs.lemmas.Bool.{eq-eqb, ne_eqb, cases_eq, cases_lt, cases_Bool, cond-false}
 use Rattle.journal.specs.declared.line.Line.{Line}
 use Rattle.journal.specs.Accounts.{held, aside, balance, brought, NeverBelowZero, NamesBelow, sum_below, held_below, aside_below}
 use Rattle.journal.proofs.Sums.{sum_below_add, sum_below_alike, sum_below_zero, sum_below_point, sum_below_only, some_below}
@@ -88,7 +88,7 @@ module _ (v : View) (K : Accounted v) (day : ℕ) where
 
       go : (living e ≡ true) ⊎ (living e ≡ false) → cond (living e) (balance v.lines (aside (aref_of e) e.against) day) 0 ≡ cond (living e) (sum_below (suc v.top) (λ b. balance v.lines (aside (aref_of e) b) day)) 0
       go (inl l) = ap (λ x. cond (living e) x 0) (sym (sum_below_only (suc v.top) e.against (λ b. balance v.lines (aside (aref_of e) b) day) (omega arith) (other l)))
-      go (inr l) = cond_false _ _ _ l ∙ sym (cond_false _ _ _ l)
+      go (inr l) = cond-false _ _ _ l ∙ sym (cond-false _ _ _ l)
 
   aside_over : (es : List Entry) → All (λ e. living e ≡ true → find (aref_of e) v.places ≡ e) es → All (AcceptedBy v.top) es →
       aside_in es v.lines day ≡ over_living es (λ a. sum_below (suc v.top) (λ b. balance v.lines (aside a b) day))

@@ -3,7 +3,7 @@ use Rattle.std.proofs.Common.{◌≡◌, ℕ, ◌+◌, ◌-◌, ◌<◌, ◌≤�
 use mathlib.Core.List.Memᴰ
 use mathlib.Core.List.{Memᴰ}
 use Rattle.std.specs.List.{AllByRecursion as All}
-use Rattle.std.proofs.lemmas.Bool.{ne_eqb, eqb-true, cases_eq, cases_Bool, and_parts, and_left, and_right, or_left, or_right, false≢true, cond_false, leb-true, ltb-true}
+use Rattle.std.proofs.lemmas.Bool.{ne_eqb, eqb-true, cases_eq, cases_Bool, and_parts, and_left, and_right, or_left, or_right, false≢true, cond-false, leb-true, ltb-true}
 use Rattle.law.specs.Places
 use Rattle.law.specs.Preemption
 use Rattle.terms.specs.declared.request.Request.{Request}
@@ -184,7 +184,7 @@ module _ (R : Rules) (t : ℕ) (r : Request) (v : View) (ms : List Line) where
       one e false b c = refl
 
       two : (e : Entry) → living e ≡ false → living (g e) ≡ false
-      two e l = rw (cond_false (p e) _ e (and_left _ _ (gone_not e.standing.state l))) l
+      two e l = rw (cond-false (p e) _ e (and_left _ _ (gone_not e.standing.state l))) l
 
   hold_after : (c k : ℕ) → 0 < holding ms c k → Within v.places c k → Holding (g (find c v.places)) k
   hold_after c k q w = go (p e) (Preemption.none_aside ms r.aref e) (empty ms e) refl

@@ -1,7 +1,7 @@
 -- Every call keeps terms inside the posted days, of 1 to 31 days where a record lives.
 use Rattle.std.proofs.Common.{◌≡◌, ℕ, ◌+◌, ◌-◌, ◌≤◌, Bool, true, false, cond, not, eqb, ltb, ◌⊎◌, List, [], ◌∷◌, length, filter, sym, refl, ap, subst, inl, inr, arith}
 use Rattle.std.specs.List.{AllByRecursion as All}
-use Rattle.std.proofs.lemmas.Bool.{cases_Bool, and_parts, or_parts, false≢true, ltb-false, cond-true, cond_false}
+use Rattle.std.proofs.lemmas.Bool.{cases_Bool, and_parts, or_parts, false≢true, ltb-false, cond-true, cond-false}
 use Rattle.std.proofs.lemmas.Bool.Decides.{nat_tests}
 use Rattle.terms.specs.declared.request.Request.{Request}
 use Rattle.terms.specs.declared.refusal.Refusal.TheVariants.{NothingDue, JournalFull}
@@ -44,7 +44,7 @@ living_possible days p l (e ∷ es) h = go (living_possible days p l es h.1) (ca
   where
     go : All (λ d. Possible d.standing.request) (filter p es) → (p e ≡ true) ⊎ (p e ≡ false) → All (λ d. Possible d.standing.request) (cond (p e) (e ∷ filter p es) (filter p es))
     go rest (inl q) = rw (cond-true (p e) (e ∷ filter p es) (filter p es) q) (termed_possible days e (l e q) h.0, rest)
-    go rest (inr q) = rw (cond_false (p e) (e ∷ filter p es) (filter p es) q) rest
+    go rest (inr q) = rw (cond-false (p e) (e ∷ filter p es) (filter p es) q) rest
 
 module _ (days : Days) where
   pub termed_nobody : Termed days nobody
@@ -115,7 +115,7 @@ module _ (R : Rules) (v : View) (T : All (Termed v.days) v.places) where
           Termed v.days (cond (defends R t r v.days e) (cond n (cond m (leave e) e) (record { standing = record { request = e.standing.request; state = Challenged; queued = e.standing.queued }; due = R.answer_by r e.standing t v.days; against = r.aref })) e)
       go (inl d) n m = subst (Termed v.days) (sym (cond-true (defends R t r v.days e) _ _ d))
           (termed_cond v.days n _ _ (termed_cond v.days m _ _ (termed_leave v.days e k) k) (k.0, k.1, λ _. k.2 (defends_lives R t r v e d)))
-      go (inr d) n m = subst (Termed v.days) (sym (cond_false (defends R t r v.days e) _ _ d)) k
+      go (inr d) n m = subst (Termed v.days) (sym (cond-false (defends R t r v.days e) _ _ d)) k
 
   inside_entered : (t : ℕ) (r : Request) (s : State) (ls : List Line) (es : List Entry) → Possible r → r.start + r.length ≤ length v.days.amounts → All (Termed v.days) es →
       Holds (λ ls es. All (Termed v.days) es) (entered R t r s ls es)

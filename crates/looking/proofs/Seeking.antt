@@ -1,7 +1,7 @@
 -- Steps of a loop that seeks a place: what is left to look through decides.
 use Rattle.std.proofs.Common.{◌≡◌, ℕ, ◌+◌, ◌<◌, ◌≤◌, Bool, true, false, cond, ◌||◌, List, map, length, get_or, drop, Some, None, Option, sym, refl, ap, ◌∙◌, arith}
 use Rattle.std.proofs.lemmas.List.{drop_more, drop_all}
-use Rattle.std.proofs.lemmas.Bool.{or_left, cond-true, cond_false}
+use Rattle.std.proofs.lemmas.Bool.{or_left, cond-true, cond-false}
 use Rattle.law.specs.View.{Entry}
 use Rattle.law.specs.Places.{some}
 use Rattle.desk.specs.declared.record.Record.{Record}
@@ -47,7 +47,7 @@ module _ (p : Entry → Bool) (places : List Record) (i : ℕ) (d : Record) wher
   first_here h q = let z : i ≡ i + 0 = omega arith in ap (λ n. Some n) z ∙ ap (shifted i) (sym (first_more h ∙ cond-true _ _ _ q))
 
   pub first_further : i < length places → p (entry_of (get_or places i d)) ≡ false → shifted (i + 1) (first_place p (map entry_of (drop (i + 1) places))) ≡ shifted i (first_place p (map entry_of (drop i places)))
-  first_further h q = shifted_one i _ ∙ ap (shifted i) (sym (first_more h ∙ cond_false _ _ _ q))
+  first_further h q = shifted_one i _ ∙ ap (shifted i) (sym (first_more h ∙ cond-false _ _ _ q))
 
 pub first_nowhere : (p : Entry → Bool) (places : List Record) (i : ℕ) → length places ≤ i → None ≡ shifted i (first_place p (map entry_of (drop i places)))
 first_nowhere p places i h = ap (λ rs. shifted i (first_place p (map entry_of rs))) (sym (drop_all i places h))

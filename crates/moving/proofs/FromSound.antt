@@ -1,7 +1,7 @@
 -- What a sound desk gives to the postings of a call, and moves that take all there is.
 use Rattle.std.proofs.Common.{◌≡◌, ℕ, zero, suc, ◌+◌, ◌<◌, ◌≤◌, min, false, cond, List, length, get_or, replicate, sym, refl, ap, ◌∙◌, arith}
 use Rattle.std.proofs.lemmas.List.{get_or-replicate}
-use Rattle.std.proofs.lemmas.Bool.{cond_false}
+use Rattle.std.proofs.lemmas.Bool.{cond-false}
 use Rattle.journal.specs.declared.line.Line.{Line}
 use Rattle.journal.specs.declared.line.LineKind.{LineKind}
 use Rattle.journal.specs.Accounts.{Account, sort, from, balance}
@@ -28,8 +28,8 @@ pub gone_shows : (B : Account → ℕ → ℕ) (r : Record) → living (entry_of
 gone_shows B r gone h a = record {
   held_days = ap length h;
   aside_days = ap length a;
-  holds = λ j l. ap (λ xs. get_or xs j 0) h ∙ (get_or-replicate 31 j 0 0 l ∙ sym (cond_false _ _ 0 gone));
-  sets_aside = λ j l. ap (λ xs. get_or xs j 0) a ∙ (get_or-replicate 31 j 0 0 l ∙ sym (cond_false _ _ 0 gone));
+  holds = λ j l. ap (λ xs. get_or xs j 0) h ∙ (get_or-replicate 31 j 0 0 l ∙ sym (cond-false _ _ 0 gone));
+  sets_aside = λ j l. ap (λ xs. get_or xs j 0) a ∙ (get_or-replicate 31 j 0 0 l ∙ sym (cond-false _ _ 0 gone));
 }
 
 -- no account has more than 20,000 MW, so to move at most that is to move all

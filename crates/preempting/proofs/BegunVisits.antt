@@ -1,7 +1,7 @@
 -- A visit that begins: who is passed over, and who gives from which place to which.
 use Rattle.std.proofs.Common.{◌≡◌, ℕ, zero, suc, ◌+◌, ◌<◌, ◌≤◌, min, Bool, true, false, cond, ◌||◌, eqb, ◌≢◌, ◌⊎◌, List, length, get_or, set, sym, refl, ap, ◌∙◌, subst, inl, inr, arith}
 use Rattle.std.proofs.lemmas.List.{length-map, length-set, get_or-set_same, get_or-set_other}
-use Rattle.std.proofs.lemmas.Bool.{or_cases, eqb-true, not-false, cond-true, cond_false}
+use Rattle.std.proofs.lemmas.Bool.{or_cases, eqb-true, not-false, cond-true, cond-false}
 use Rattle.terms.specs.declared.request.Request.{Request}
 use Rattle.terms.specs.Words.{is_pending}
 use Rattle.sheets.specs.Rules.{Rules}

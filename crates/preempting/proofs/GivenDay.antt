@@ -2,7 +2,7 @@
 use Rattle.std.proofs.Common.{◌≡◌, ℕ, zero, suc, ◌+◌, ◌-◌, ◌<◌, ◌≤◌, min, Bool, true, false, cond, ◌&&◌, eqb, ltb, leb, ◌≢◌, ◌⊎◌, List, [], ◌∷◌, length, get_or, take, set, sum, sym, refl, ap, ◌∙◌, subst, inl, inr, arith}
 use Rattle.std.proofs.lemmas.List.{get_or-map, get_or-set_same, get_or-set_other, length-set, length-take-le, get_or-take, drop-set-lt}
 use Rattle.std.proofs.lemmas.List.Sums.{sum_by-set, sum_by-take-drop, get_or-le-sum_by}
-use Rattle.std.proofs.lemmas.Bool.{cases_eq, eq-eqb, ne_eqb, and_left, and_right, lt-leb, le-ltb, cond_false}
+use Rattle.std.proofs.lemmas.Bool.{cases_eq, eq-eqb, ne_eqb, and_left, and_right, lt-leb, le-ltb, cond-false}
 use Rattle.terms.specs.declared.request.Request.{Request}
 use Rattle.journal.specs.declared.line.Line.{Line}
 use Rattle.journal.specs.declared.line.LineKind.{LineKind}
@@ -111,8 +111,8 @@ module _ (d : Desk) (M : Midway d) (g : Giving) (r : Request) (may : Giveable d 
   nothing_given out = none_posted _ _ _ _ _ _ _ (omega (arith, none out))
     where
       none : (day < r.start) ⊎ (r.start + r.length ≤ day) → short r day ls ≡ 0
-      none (inl h) = cond_false _ _ 0 (and_left (leb r.start day) (ltb day (r.start + r.length)) (lt-leb _ _ h))
-      none (inr h) = cond_false _ _ 0 (and_right (leb r.start day) (ltb day (r.start + r.length)) (le-ltb _ _ h))
+      none (inl h) = cond-false _ _ 0 (and_left (leb r.start day) (ltb day (r.start + r.length)) (lt-leb _ _ h))
+      none (inr h) = cond-false _ _ 0 (and_right (leb r.start day) (ltb day (r.start + r.length)) (le-ltb _ _ h))
 
   -- in its term
   module _ (early : r.start ≤ day) (late : day < r.start + r.length) (month : r.length ≤ 31) (amounts : List ℕ) (W : ShortShown r (view d).lines amounts) (mw : ℕ)

@@ -1,7 +1,7 @@
 -- Who stands in the places while the confirmed defenders give: those of whom something is aside are challenged.
 use Rattle.std.proofs.Common.{◌≡◌, ℕ, ◌+◌, ◌<◌, ◌≤◌, Bool, true, false, cond, eqb, ◌≢◌, ◌⊎◌, List, [], ◌∷◌, map, length, get_or, set, sym, refl, ap, ◌∙◌, subst, inl, inr, arith}
 use Rattle.std.proofs.lemmas.List.{length-map, length-set, get_or-map, get_or-set_same, get_or-set_other, ext_get_or}
-use Rattle.std.proofs.lemmas.Bool.{cases_Bool, cases_eq, eq-eqb, and_from, and_parts, cond-true, cond_false}
+use Rattle.std.proofs.lemmas.Bool.{cases_Bool, cases_eq, eq-eqb, and_from, and_parts, cond-true, cond-false}
 use Rattle.terms.specs.declared.request.Request.{Request}
 use Rattle.terms.specs.Days.{Days}
 use Rattle.sheets.specs.Rules.{Rules}
@@ -36,7 +36,7 @@ module _ (R : Rules) (t : ℕ) (r : Request) (days : Days) where
     where
       go : (defends R t r days e ≡ true) ⊎ (defends R t r days e ≡ false) → after ms e ≡ after ls e
       go (inl q) = ap (λ (c : Bool). cond (defends R t r days e) (cond c e (challenged_by R t r days e)) e) (each_day_same _ _ (λ k. ap (λ (n : ℕ). eqb n 0) (h q k)) (start_of e) (length_of e))
-      go (inr q) = cond_false _ _ _ q ∙ sym (cond_false _ _ _ q)
+      go (inr q) = cond-false _ _ _ q ∙ sym (cond-false _ _ _ q)
 
   pub at_after : (ls : List Line) (es : List Entry) (i : ℕ) → i < length es → entry_at (map (after_giving R t r days ls) es) i ≡ after_giving R t r days ls (entry_at es i)
   at_after ls es i h = get_or-map (after ls) es i nobody nobody h
@@ -67,10 +67,10 @@ module _ (R : Rules) (t : ℕ) (r : Request) (days : Days) where
           here : (q : ℕ) → q < length es → (q ≡ p) ⊎ (q ≡ p → ⊥) → get_or (map (after ns) es) q nobody ≡ get_or (set (map (after ms) es) p (challenged_by R t r days e)) q nobody
           here q l (inl same) =
               ap (λ (i : ℕ). get_or (map (after ns) es) i nobody) same
-              ∙ (at_after ns es p h ∙ (cond-true _ _ _ defending ∙ (cond_false _ _ _ (some_aside R t r e ms fine right needed)
+              ∙ (at_after ns es p h ∙ (cond-true _ _ _ defending ∙ (cond-false _ _ _ (some_aside R t r e ms fine right needed)
               ∙ (sym (get_or-set_same (map (after ms) es) p (challenged_by R t r days e) nobody (omega (arith, length-map es (after ms)))) ∙ ap (λ (i : ℕ). get_or (set (map (after ms) es) p (challenged_by R t r days e)) i nobody) (sym same)))))
           here q l (inr ne) = at_after ns es q l ∙ (others q l ne ∙ (sym (at_after ms es q l) ∙ sym (get_or-set_other (map (after ms) es) p q _ nobody ne)))
-      go (inr none) = ext_get_or nobody (map (after ns) es) (map (after ms) es) (length-map es _ ∙ sym (length-map es _)) (λ q l. here q (omega (arith, length-map es (after ns)))) ∙ sym (cond_false _ _ _ none)
+      go (inr none) = ext_get_or nobody (map (after ns) es) (map (after ms) es) (length-map es _ ∙ sym (length-map es _)) (λ q l. here q (omega (arith, length-map es (after ns)))) ∙ sym (cond-false _ _ _ none)
         where
           here : (q : ℕ) → q < length es → get_or (map (after ns) es) q nobody ≡ get_or (map (after ms) es) q nobody
           here q l = at_after ns es q l ∙ (same_after ms ns (entry_at es q) (λ d k. aside_stays R t r e ms fine (aref_of (entry_at es q)) (inr none) k) ∙ sym (at_after ms es q l))

@@ -2,7 +2,7 @@
 use Rattle.std.proofs.Common.{◌≡◌, ℕ, zero, suc, ◌+◌, ◌-◌, ◌<◌, ◌≤◌, min, Bool, true, false, cond, not, ◌&&◌, ◌||◌, eqb, ltb, leb, ◌⊎◌, List, map, length, get_or, sym, refl, ap, ◌∙◌, subst, inl, inr, arith}
 use Rattle.std.proofs.ByRecursion.{All-get_or}
 use Rattle.std.proofs.lemmas.List.{length-map, get_or-map}
-use Rattle.std.proofs.lemmas.Bool.{cases_Bool, cases_eq, eq-eqb, ne_eqb, eqb-true, eqb-false, and_parts, leb-true, ltb-true, cond-true, cond_false, or_cases, not-true, not-false}
+use Rattle.std.proofs.lemmas.Bool.{cases_Bool, cases_eq, eq-eqb, ne_eqb, eqb-true, eqb-false, and_parts, leb-true, ltb-true, cond-true, cond-false, or_cases, not-true, not-false}
 use Rattle.terms.specs.declared.request.Request.{Request}
 use Rattle.journal.specs.declared.line.Line.{Line}
 use Rattle.journal.specs.Accounts.{held, balance}
@@ -69,7 +69,7 @@ short_on_is r ls amounts S day = go (cases_Bool (leb r.start day && ltb day (r.s
         let lo = leb-true r.start day w.0 in let hi = ltb-true day (r.start + r.length) w.1 in
         let z : r.start + (day - r.start) ≡ day = omega arith in
         cond-true _ _ _ q ∙ (S.shows (day - r.start) (omega arith) ∙ ap (λ (i : ℕ). short r i ls) z)
-    go (inr q) = cond_false _ _ _ q ∙ sym (cond_false _ _ _ q)
+    go (inr q) = cond-false _ _ _ q ∙ sym (cond-false _ _ _ q)
 
 module _ (d : Desk) (S : Showing d) (r : Request) (i : ℕ) (h : i < length d.places.now) (u : Record) (ready : StandsReady r (view d) (entry_at (view d).places i)) where
   abbrev one : Record

@@ -1,6 +1,6 @@
 -- A visit to a pending defender: the lines that it writes, and what is short after it.
 use Rattle.std.proofs.Common.{◌≡◌, ℕ, ◌+◌, ◌-◌, ◌<◌, ◌≤◌, min, Bool, true, false, cond, not, List, length, get_or, take, sym, refl, ap, ◌∙◌, subst, arith}
-use Rattle.std.proofs.lemmas.Bool.{cond-true, cond_false}
+use Rattle.std.proofs.lemmas.Bool.{cond-true, cond-false}
 use Rattle.terms.specs.declared.request.Request.{Request}
 use Rattle.terms.specs.Words.{is_pending}
 use Rattle.journal.specs.declared.line.Line.{Line}
@@ -53,13 +53,13 @@ module _ (d : Desk) (M : Midway d) (t : ℕ) (r : Request) (i : ℕ) (h : i < le
   }
 
   pub not_pending : is_pending one.standing.state ≡ false → superseding t r (entry_at (view d).places i) (view d).lines ≡ (view d).lines
-  not_pending p = cond_false _ _ _ (ap (λ (x : Entry). is_pending x.standing.state) (sym same) ∙ p)
+  not_pending p = cond-false _ _ _ (ap (λ (x : Entry). is_pending x.standing.state) (sym same) ∙ p)
 
   pub pending : is_pending one.standing.state ≡ true → superseding t r (entry_at (view d).places i) (view d).lines ≡ supersede t r (entry_at (view d).places i) (view d).lines
   pending p = cond-true _ _ _ (ap (λ (x : Entry). is_pending x.standing.state) (sym same) ∙ p)
 
   pub passed_over : meets_shortage r (entry_at (view d).places i) (view d).lines ≡ false → supersede t r (entry_at (view d).places i) (view d).lines ≡ (view d).lines
-  passed_over p = cond_false _ _ _ p
+  passed_over p = cond-false _ _ _ p
 
   pub superseded_lines : meets_shortage r (entry_at (view d).places i) (view d).lines ≡ true →
       by_day (moved (superseded_move t r (get_or d.places.now i unread) i)) (start_of (entry_of (get_or d.places.now i unread))) (length_of (entry_of (get_or d.places.now i unread))) (view d).lines

@@ -32,10 +32,10 @@ pub fn challenge<S: RuleSheet>(
     requires ready { StandsReady request.now (view desk.old) (entry_at (view desk.old).places place) }
     requires early { minute ≤ 1000000 }
     requires possible { Possible request.now }
-    requires in_time { (S.RuleSheet.rules sheet.now).in_time request.now minute (view desk.old).days ≡ true }
+    requires in_time { (S.rules sheet.now).in_time request.now minute (view desk.old).days ≡ true }
     requires none { (day : ℕ) → balance (view desk.old).lines (aside (aref_of (entry_at (view desk.old).places place)) request.now.aref) day ≡ 0 }
     ensures midway { Midway desk.new }
-    ensures view { view desk.new ≡ with_places (view desk.old) (slice_set (view desk.old).places place (challenged_by (S.RuleSheet.rules sheet.now) minute request.now (view desk.old).days (entry_at (view desk.old).places place))) }
+    ensures view { view desk.new ≡ with_places (view desk.old) (slice_set (view desk.old).places place (challenged_by (S.rules sheet.now) minute request.now (view desk.old).days (entry_at (view desk.old).places place))) }
 {
     let mut one = desk.places[place];
     let posted = Posted {
@@ -70,10 +70,10 @@ pub fn begin_visit<S: RuleSheet>(
     requires inside { request.now.start + request.now.length ≤ 400 }
     requires early { minute ≤ 1000000 }
     requires possible { Possible request.now }
-    requires in_time { (S.RuleSheet.rules sheet.now).in_time request.now minute (view desk.old).days ≡ true }
+    requires in_time { (S.rules sheet.now).in_time request.now minute (view desk.old).days ≡ true }
     requires none { (day : ℕ) → balance (view desk.old).lines (aside (aref_of (entry_at (view desk.old).places place)) request.now.aref) day ≡ 0 }
     ensures midway { Midway desk.new }
-    ensures begun { Begun (S.RuleSheet.rules sheet.now) minute request.now challenger place (view desk.old) desk.new result }
+    ensures begun { Begun (S.rules sheet.now) minute request.now challenger place (view desk.old) desk.new result }
 {
     let one = desk.places[place];
     if one.standing.state.is_pending() {

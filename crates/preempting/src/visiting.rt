@@ -42,18 +42,18 @@ pub fn give_in_turn<S: RuleSheet>(
     short: &mut [u32; 31],
 )
     requires midway { Midway desk.old }
-    requires lined { LinedToGive (S.RuleSheet.rules sheet.now) minute request.now desk.old (contents defenders.now) }
+    requires lined { LinedToGive (S.rules sheet.now) minute request.now desk.old (contents defenders.now) }
     requires seated { Seated (view desk.old) request.now challenger }
     requires short { ShortShown request.now (view desk.old).lines short.old }
     requires inside { request.now.start + request.now.length ≤ 400 }
     requires early { minute ≤ 1000000 }
     requires possible { Possible request.now }
     requires most { request.now.mw ≤ 20000 }
-    requires in_time { (S.RuleSheet.rules sheet.now).in_time request.now minute (view desk.old).days ≡ true }
-    requires roomy { length (give_all (S.RuleSheet.rules sheet.now) minute request.now (lined (view desk.old).places (contents defenders.now)) (view desk.old).lines) ≤ (view desk.old).room }
+    requires in_time { (S.rules sheet.now).in_time request.now minute (view desk.old).days ≡ true }
+    requires roomy { length (give_all (S.rules sheet.now) minute request.now (lined (view desk.old).places (contents defenders.now)) (view desk.old).lines) ≤ (view desk.old).room }
     ensures midway { Midway desk.new }
-    ensures view { view desk.new ≡ given_view (S.RuleSheet.rules sheet.now) minute request.now (view desk.old)
-        (give_all (S.RuleSheet.rules sheet.now) minute request.now (lined (view desk.old).places (contents defenders.now)) (view desk.old).lines) }
+    ensures view { view desk.new ≡ given_view (S.rules sheet.now) minute request.now (view desk.old)
+        (give_all (S.rules sheet.now) minute request.now (lined (view desk.old).places (contents defenders.now)) (view desk.old).lines) }
 {
     let mut left = in_all(short, request.length);
     'visit: for j in 0..defenders.len() {

@@ -2,7 +2,7 @@
 use Rattle.std.proofs.Common.{◌≡◌, ℕ, ◌+◌, ◌<◌, ◌≤◌, true, false, cond, leb, ◌⊎◌, List, map, length, get_or, set, replicate, sym, refl, ap, ◌∙◌, inl, inr, arith}
 use Rattle.std.proofs.ByRecursion.{All-get_or}
 use Rattle.std.proofs.lemmas.List.{get_or-map, length-map}
-use Rattle.std.proofs.lemmas.Bool.{cases_Bool, cond-true, cond_false, le-leb, lt-leb}
+use Rattle.std.proofs.lemmas.Bool.{cases_Bool, cond-true, cond-false, le-leb, lt-leb}
 use Rattle.terms.specs.declared.words.State.{State}
 use Rattle.terms.specs.Words.{is_living}
 use Rattle.journal.specs.Accounts.{Account, held, aside, balance}
@@ -43,7 +43,7 @@ module _ (B : Account → ℕ → ℕ) (old : Record) (state : State) (due : ℕ
             holds = λ j b. ap (λ xs. get_or xs j 0) eh ∙ (s.holds j b ∙ same_held j q);
             sets_aside = λ j b. ap (λ xs. get_or xs j 0) ea ∙ (s.sets_aside j b ∙ same_aside j q);
           }
-      go (inr q) = gone_shows B new (ap living r.what ∙ q) (r.holds ∙ cond_false _ _ _ q) (r.sets_aside ∙ cond_false _ _ _ q)
+      go (inr q) = gone_shows B new (ap living r.what ∙ q) (r.holds ∙ cond-false _ _ _ q) (r.sets_aside ∙ cond-false _ _ _ q)
 
 -- in a desk midway
 module _ (d : Desk) (M : Midway d) (i : ℕ) (h : i < length d.places.now) (l : living (get_or (view d).places i nobody) ≡ true) where

@@ -19,7 +19,7 @@ impl<S: RuleSheet> Order<Defender> for S {
 
     ghost ranked = { λ _ defender. Possible defender.standing.request };
 
-    ghost before = { λ sheet one other. (S.RuleSheet.rules sheet).gives_before one.standing other.standing };
+    ghost before = { λ sheet one other. (S.rules sheet).gives_before one.standing other.standing };
 
     ghost total = { Prim.search rules };
 

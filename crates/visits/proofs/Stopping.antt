@@ -1,6 +1,6 @@
 -- Where no day is short nobody gives way, so the visiting may stop there.
 use Rattle.std.proofs.Common.{◌≡◌, ℕ, zero, suc, ◌+◌, ◌-◌, Bool, true, false, cond, ◌&&◌, eqb, ltb, leb, List, [], ◌∷◌, sym, refl, ap, ◌∙◌, arith}
-use Rattle.std.proofs.lemmas.Bool.{eq-eqb, eqb-true, and_parts, and_from, or_right, leb-true, ltb-true, not-false, cond_false, not_from_true}
+use Rattle.std.proofs.lemmas.Bool.{eq-eqb, eqb-true, and_parts, and_from, or_right, leb-true, ltb-true, not-false, cond-false, not_from_true}
 use Rattle.terms.specs.declared.request.Request.{Request}
 use Rattle.terms.specs.Words.{is_pending}
 use Rattle.sheets.specs.Rules.{Rules}
@@ -43,7 +43,7 @@ module _ (r : Request) where
   -- where no day is short nobody is superseded, and nobody gives
   pub supersedes_none : (t : ℕ) (d : Entry) (ls : List Line) → ((k : ℕ) → short r k ls ≡ 0) → supersede t r d ls ≡ ls
   supersedes_none t d ls h =
-      cond_false (meets_shortage r d ls) _ _ (not_from_true _ (each_day_from _ (λ k. or_right (eqb (holding ls (aref_of d) k) 0) (eqb (short r k ls) 0) (eq-eqb _ 0 (h k))) (start_of d) (length_of d)))
+      cond-false (meets_shortage r d ls) _ _ (not_from_true _ (each_day_from _ (λ k. or_right (eqb (holding ls (aref_of d) k) 0) (eqb (short r k ls) 0) (eq-eqb _ 0 (h k))) (start_of d) (length_of d)))
 
   pub gives_none : (R : Rules) (t : ℕ) (d : Entry) (ls : List Line) → ((k : ℕ) → short r k ls ≡ 0) → give R t r d ls ≡ ls
   gives_none R t d ls h = by_day_nothing _ ls (λ k. post_nothing t _ (aref_of d) r.aref k _ ls (omega (arith, h k))) (start_of d) (length_of d)

@@ -13,26 +13,26 @@ use Rattle.admitting.proofs.by_aref.Goals as goal
 within : (d : Desk) (a i : ℕ) → Some i ≡ first_place (is a) (view d).places → i < length d.places.now
 within d a i q = omega (arith, (found_there a i (view d).places q).within, length-map d.places.now entry_of)
 
-pub offset-bounds-desk-i : goal.offset-bounds-desk-i
-offset-bounds-desk-i c = let h = within c.args.desk.now c.args.aref c.in-Some.i c.in-Some.ensures in search rules
+pub offset_bounds-desk-i : goal.offset_bounds-desk-i
+offset_bounds-desk-i c = let h = within c.args.desk.now c.args.aref c.in-Some.i c.in-Some.ensures in search rules
 
 pub bounds-desk-i : goal.bounds-desk-i
 bounds-desk-i c = within c.args.desk.now c.args.aref c.in-Some.i c.in-Some.ensures
 
-pub returns-then-not-is-in : goal.returns-then-not-is-in
-returns-then-not-is-in c =
+pub returns-then-not-is_in : goal.returns-then-not-is_in
+returns-then-not-is_in c =
     let d = c.args.desk.now in let i = c.in-Some.i in let q = c.in-Some.ensures in
-    wrong_state (view d) _ _ c.args.wanted c.in-default.ensures.1 i (found_there _ i (view d).places q)
-    (ap (λ (e : Entry). is_in c.args.wanted e.standing.state) (get_or-map entry_of d.places.now i _ nobody (within d _ i q)) ∙ sym c.if-not-is-in.ensures)
+    wrong_state (view d) _ _ c.args.wanted c.in_default.ensures.1 i (found_there _ i (view d).places q)
+    (ap (λ (e : Entry). is_in c.args.wanted e.standing.state) (get_or-map entry_of d.places.now i _ nobody (within d _ i q)) ∙ sym c.if-not-is_in.ensures)
 
 pub returns-in-None : goal.returns-in-None
 returns-in-None c =
     let d = c.args.desk.now in
-    nobody_there (view d) _ _ c.args.wanted c.in-default.ensures.1 (found_nowhere _ (view d).places c.in-None.ensures)
+    nobody_there (view d) _ _ c.args.wanted c.in_default.ensures.1 (found_nowhere _ (view d).places c.in-None.ensures)
 
-pub returns-else-not-is-in : goal.returns-else-not-is-in
-returns-else-not-is-in c =
+pub returns-else-not-is_in : goal.returns-else-not-is_in
+returns-else-not-is_in c =
     let d = c.args.desk.now in let i = c.in-Some.i in let q = c.in-Some.ensures in
-    at_place (view d) _ _ c.args.wanted c.in-default.ensures.1 i (found_there _ i (view d).places q)
-    (ap (λ (e : Entry). is_in c.args.wanted e.standing.state) (get_or-map entry_of d.places.now i _ nobody (within d _ i q)) ∙ sym c.if-not-is-in.ensures)
-    c.in-default.ensures.0
+    at_place (view d) _ _ c.args.wanted c.in_default.ensures.1 i (found_there _ i (view d).places q)
+    (ap (λ (e : Entry). is_in c.args.wanted e.standing.state) (get_or-map entry_of d.places.now i _ nobody (within d _ i q)) ∙ sym c.if-not-is_in.ensures)
+    c.in_default.ensures.0

@@ -7,4 +7,4 @@ use Rattle.closing.proofs.closes_at.Goals as goal
 pub returns : goal.returns
 returns c =
     let es = (view c.args.desk.now).places in
-    closes_where es c.args.against (sym c.any-match-open.ensures ∙ c.if-any-match-open.false) c.place-of.result (subst (Sought es c.args.against) (sym c.place-of.ensures) (sought c.args.against es))
+    closes_where es c.args.against (sym c.any_match_open.ensures ∙ c.if-any_match_open.false) c.place_of.result (subst (Sought es c.args.against) (sym c.place_of.ensures) (sought c.args.against es))

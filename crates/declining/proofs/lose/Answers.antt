@@ -5,19 +5,19 @@ use Rattle.moving.proofs.FromSound.{midway_of}
 use Rattle.declining.proofs.Losses.{may, same_lines}
 use Rattle.declining.proofs.lose.Goals as goal
 
-pub move-by-day-requires : goal.move-by-day-requires
-move-by-day-requires c =
+pub move_by_day-requires : goal.move_by_day-requires
+move_by_day-requires c =
     let d = c.args.desk.now in let p = c.requires in
     record {
       midway = midway_of d p.sound;
-      may = may d p.sound c.args.i p.within p.lives c.args.minute c.challenger-place-j.result c.challenger-place-j.ensures;
-      roomy = omega (arith, p.roomy, ap length (same_lines d p.sound c.args.i p.within p.lives c.args.minute c.challenger-place-j.result c.challenger-place-j.ensures));
+      may = may d p.sound c.args.i p.within p.lives c.args.minute c.challenger_place-j.result c.challenger_place-j.ensures;
+      roomy = omega (arith, p.roomy, ap length (same_lines d p.sound c.args.i p.within p.lives c.args.minute c.challenger_place-j.result c.challenger_place-j.ensures));
     }
 
 pub returns : goal.returns
 returns c =
     let d = c.args.desk.now in let p = c.requires in
     record {
-      midway = c.move-by-day.ensures.midway;
-      view = c.move-by-day.ensures.view ∙ ap (with_lines (view d)) (same_lines d p.sound c.args.i p.within p.lives c.args.minute c.challenger-place-j.result c.challenger-place-j.ensures);
+      midway = c.move_by_day.ensures.midway;
+      view = c.move_by_day.ensures.view ∙ ap (with_lines (view d)) (same_lines d p.sound c.args.i p.within p.lives c.args.minute c.challenger_place-j.result c.challenger_place-j.ensures);
     }

@@ -11,22 +11,22 @@ use Rattle.moving.proofs.move_by_day.Goals as goal
 pub loop-k-init : goal.loop-k-init
 loop-k-init c = (c.requires.midway.showing, sym (ap (with_lines (view c.args.desk.now)) (by_day_none (moved c.args.what) c.args.start (view c.args.desk.now).lines)))
 
-pub standing-in-requires : goal.standing-in-requires
-standing-in-requires c = reaches c.args.desk.now c.requires.midway c.args.what c.args.start c.args.days c.requires.may c.loop-k.k c.loop-k-test.true c.loop-k.desk c.loop-k.invariant.0 c.loop-k.invariant.1
+pub standing_in-requires : goal.standing_in-requires
+standing_in-requires c = reaches c.args.desk.now c.requires.midway c.args.what c.args.start c.args.days c.requires.may c.loop-k.k c.loop-k-test.true c.loop-k.desk c.loop-k.invariant.0 c.loop-k.invariant.1
 
-pub post-line-requires : goal.post-line-requires
-post-line-requires c = record {
+pub post_line-requires : goal.post_line-requires
+post_line-requires c = record {
   shown = c.loop-k.invariant.0;
-  may = postable_after c.args.desk.now c.requires.midway c.args.what c.args.start c.args.days c.requires.may c.loop-k.k c.loop-k-test.true c.loop-k.desk c.loop-k.invariant.0 c.loop-k.invariant.1 c.requires.roomy c.min-mw.result (least c.args.desk.now c.requires.midway c.args.what c.args.start c.args.days c.requires.may c.loop-k.k c.loop-k-test.true c.loop-k.desk c.loop-k.invariant.0 c.loop-k.invariant.1 c.standing-in.result c.min-mw.result c.standing-in.ensures c.min-mw.ensures);
+  may = postable_after c.args.desk.now c.requires.midway c.args.what c.args.start c.args.days c.requires.may c.loop-k.k c.loop-k-test.true c.loop-k.desk c.loop-k.invariant.0 c.loop-k.invariant.1 c.requires.roomy c.min-mw.result (least c.args.desk.now c.requires.midway c.args.what c.args.start c.args.days c.requires.may c.loop-k.k c.loop-k-test.true c.loop-k.desk c.loop-k.invariant.0 c.loop-k.invariant.1 c.standing_in.result c.min-mw.result c.standing_in.ensures c.min-mw.ensures);
 }
 
 pub loop-k-preserved : goal.loop-k-preserved
 loop-k-preserved c =
     let d = c.args.desk.now in let what = c.args.what in let day = c.args.start + c.loop-k.k in (
-      c.post-line.ensures.shown,
-      c.post-line.ensures.view
+      c.post_line.ensures.shown,
+      c.post_line.ensures.view
           ∙ (ap (λ (w : View). with_lines w (post what.minute what.kind what.a what.b day c.min-mw.result w.lines)) c.loop-k.invariant.1
-          ∙ ap (with_lines (view d)) (sym (next d c.requires.midway what c.args.start c.args.days c.requires.may c.loop-k.k c.loop-k-test.true c.loop-k.desk c.loop-k.invariant.0 c.loop-k.invariant.1 c.requires.roomy c.min-mw.result (least c.args.desk.now c.requires.midway c.args.what c.args.start c.args.days c.requires.may c.loop-k.k c.loop-k-test.true c.loop-k.desk c.loop-k.invariant.0 c.loop-k.invariant.1 c.standing-in.result c.min-mw.result c.standing-in.ensures c.min-mw.ensures)))),
+          ∙ ap (with_lines (view d)) (sym (next d c.requires.midway what c.args.start c.args.days c.requires.may c.loop-k.k c.loop-k-test.true c.loop-k.desk c.loop-k.invariant.0 c.loop-k.invariant.1 c.requires.roomy c.min-mw.result (least c.args.desk.now c.requires.midway c.args.what c.args.start c.args.days c.requires.may c.loop-k.k c.loop-k-test.true c.loop-k.desk c.loop-k.invariant.0 c.loop-k.invariant.1 c.standing_in.result c.min-mw.result c.standing_in.ensures c.min-mw.ensures)))),
     )
 
 pub returns : goal.returns

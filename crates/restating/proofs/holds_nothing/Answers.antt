@@ -6,11 +6,11 @@ use Rattle.restating.proofs.DayTests.{none_busy}
 use Rattle.restating.proofs.SameRecord.{there_is, along_held}
 use Rattle.restating.proofs.holds_nothing.Goals as goal
 
-pub count-busy-requires : goal.count-busy-requires
-count-busy-requires c = let p = c.requires in record { midway = p.midway; there = along_held c.args.desk.now p.midway c.args.i p.within p.lives p.term }
+pub count_busy-requires : goal.count_busy-requires
+count_busy-requires c = let p = c.requires in record { midway = p.midway; there = along_held c.args.desk.now p.midway c.args.i p.within p.lives p.term }
 
 pub returns : goal.returns
 returns c =
     let d = c.args.desk.now in let p = c.requires in
-    ap (λ (n : ℕ). eqb n 0) c.count-busy.ensures.count
+    ap (λ (n : ℕ). eqb n 0) c.count_busy.ensures.count
     ∙ (none_busy _ _ _ ∙ ap (λ (e : Entry). empty (view d).lines e) (sym (there_is d p.midway c.args.i p.within p.lives)))

@@ -13,14 +13,14 @@ use Rattle.defending.proofs.enough.can_be_met.Goals as goal
 pub loop-day-init : goal.loop-day-init
 loop-day-init c = λ k lo hi. absurd (let z : ⊥ = omega arith in z)
 
-pub left-short-requires : goal.left-short-requires
-left-short-requires c = each_in_place c.args.desk.now c.requires.sound (contents c.args.shelf.now) c.requires.there
+pub left_short-requires : goal.left_short-requires
+left_short-requires c = each_in_place c.args.desk.now c.requires.sound (contents c.args.shelf.now) c.requires.there
 
-pub returns-then-left-short-gt0 : goal.returns-then-left-short-gt0
-returns-then-left-short-gt0 c =
+pub returns-then-left_short-gt0 : goal.returns-then-left_short-gt0
+returns-then-left_short-gt0 c =
     sym (each_not _ c.args.request.now.start c.args.request.now.length c.loop-day.day (omega arith) (omega arith)
-    (not_met c.args.desk.now c.requires.sound c.args.request.now (contents c.args.shelf.now) c.requires.there c.loop-day.day c.left-short.result c.saturating-sub-short.result
-    (omega arith) c.saturating-sub-short.ensures c.left-short.ensures c.if-left-short-gt0.true))
+    (not_met c.args.desk.now c.requires.sound c.args.request.now (contents c.args.shelf.now) c.requires.there c.loop-day.day c.left_short.result c.saturating_sub-short.result
+    (omega arith) c.saturating_sub-short.ensures c.left_short.ensures c.if-left_short-gt0.true))
 
 -- the days before, and this one
 one_day_more : (p : ℕ → Bool) (s day : ℕ) → ((k : ℕ) → s ≤ k → k < day → p k ≡ true) → p day ≡ true → (k : ℕ) → s ≤ k → k < day + 1 → p k ≡ true
@@ -35,8 +35,8 @@ loop-day-preserved c =
     let ls = (view c.args.desk.now).lines in
     let ds = lined (view c.args.desk.now).places (contents c.args.shelf.now) in
     one_day_more (λ day. leb (wanted c.args.request.now day) (free_on ls day + holdings ls ds day)) c.args.request.now.start c.loop-day.day c.loop-day.invariant
-    (met c.args.desk.now c.requires.sound c.args.request.now (contents c.args.shelf.now) c.requires.there c.loop-day.day c.left-short.result c.saturating-sub-short.result
-    (omega arith) c.saturating-sub-short.ensures c.left-short.ensures c.if-left-short-gt0.false)
+    (met c.args.desk.now c.requires.sound c.args.request.now (contents c.args.shelf.now) c.requires.there c.loop-day.day c.left_short.result c.saturating_sub-short.result
+    (omega arith) c.saturating_sub-short.ensures c.left_short.ensures c.if-left_short-gt0.false)
 
 pub returns : goal.returns
 returns c =

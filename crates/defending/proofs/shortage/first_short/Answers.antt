@@ -7,10 +7,10 @@ loop-k-init c = (refl, λ i h. absurd (let z : ⊥ = omega arith in z))
 
 pub loop-k-preserved : goal.loop-k-preserved
 loop-k-preserved c =
-    let short = c.loop-k.short in let k = c.loop-k.k in let x = c.saturating-sub.result in
+    let short = c.loop-k.short in let k = c.loop-k.k in let x = c.saturating_sub.result in
     let here : k < length short = omega (arith, c.loop-k.invariant.0, c.requires.term, c.loop-k-test.true) in (
       length-set short k x ∙ c.loop-k.invariant.0,
-      below_more _ _ (λ i h. let ne : i ≢ c.loop-k.k = omega arith in get_or-set_other short k i x 0 ne ∙ c.loop-k.invariant.1 i h) (get_or-set_same short k x 0 here ∙ c.saturating-sub.ensures),
+      below_more _ _ (λ i h. let ne : i ≢ c.loop-k.k = omega arith in get_or-set_other short k i x 0 ne ∙ c.loop-k.invariant.1 i h) (get_or-set_same short k x 0 here ∙ c.saturating_sub.ensures),
     )
 
 pub returns : goal.returns

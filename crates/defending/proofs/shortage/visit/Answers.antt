@@ -11,8 +11,8 @@ pub loop-k-init : goal.loop-k-init
 unfolding busy_days
 loop-k-init c = record { taken = set_none _ c.args.short.now; counted = refl }
 
-pub overflow-add-days : goal.overflow-add-days
-overflow-add-days c = omega (arith, c.loop-k.invariant.counted, busy_few (gives_here c.args.one.now c.args.request.now c.args.short.now) c.args.request.now.start c.loop-k.k, c.loop-k-test.true, c.requires.reach)
+pub overflow_add-days : goal.overflow_add-days
+overflow_add-days c = omega (arith, c.loop-k.invariant.counted, busy_few (gives_here c.args.one.now c.args.request.now c.args.short.now) c.args.request.now.start c.loop-k.k, c.loop-k-test.true, c.requires.reach)
 
 pub bounds-short-index-in-loop-k : goal.bounds-short-index-in-loop-k
 bounds-short-index-in-loop-k c = omega (arith, c.requires.term, c.loop-k.auto.short, c.loop-k-test.true)
@@ -24,11 +24,11 @@ pub loop-k-preserved : goal.loop-k-preserved
 loop-k-preserved c =
     let one = c.args.one.now in let r = c.args.request.now in let k = c.loop-k.k in let short = c.loop-k.short in
     let here : k < length short = omega (arith, c.requires.term, c.loop-k.auto.short, c.loop-k-test.true) in
-    let left = c.saturating-sub.ensures ∙ ap (λ n. get_or short k 0 - n) c.held-on-held.ensures in
-    let least = c.min.ensures ∙ ap (λ n. min n (get_or short k 0)) c.held-on-held.ensures in
+    let left = c.saturating_sub.ensures ∙ ap (λ n. get_or short k 0 - n) c.held_on-held.ensures in
+    let least = c.min.ensures ∙ ap (λ n. min n (get_or short k 0)) c.held_on-held.ensures in
     elim c.if-min-gt0.branch [
-      | then-min-gt0 w ↦ rw w.days-is (visiting_some one r c.args.short.now short c.loop-k.days k c.loop-k.invariant here c.loop-k-test.true c.saturating-sub.result left c.min.result least w.if-min-gt0.true)
-      | else-min-gt0 w ↦ rw w.days-is (visiting_none one r c.args.short.now short c.loop-k.days k c.loop-k.invariant here c.loop-k-test.true c.saturating-sub.result left c.min.result least w.if-min-gt0.false)
+      | then-min-gt0 w ↦ rw w.days-is (visiting_some one r c.args.short.now short c.loop-k.days k c.loop-k.invariant here c.loop-k-test.true c.saturating_sub.result left c.min.result least w.if-min-gt0.true)
+      | else-min-gt0 w ↦ rw w.days-is (visiting_none one r c.args.short.now short c.loop-k.days k c.loop-k.invariant here c.loop-k-test.true c.saturating_sub.result left c.min.result least w.if-min-gt0.false)
     ]
 
 pub returns : goal.returns

@@ -8,8 +8,8 @@ pub loop-k-init : goal.loop-k-init
 unfolding busy_days
 loop-k-init c = refl
 
-pub overflow-add-busy : goal.overflow-add-busy
-overflow-add-busy c = omega (arith, c.loop-k.invariant, busy_few (λ k. get_or c.args.amounts.now k 0) 0 c.loop-k.k, c.loop-k-test.true)
+pub overflow_add-busy : goal.overflow_add-busy
+overflow_add-busy c = omega (arith, c.loop-k.invariant, busy_few (λ k. get_or c.args.amounts.now k 0) 0 c.loop-k.k, c.loop-k-test.true)
 
 from_none : (amounts : ℕ → ℕ) (k : ℕ) → amounts (0 + k) ≡ amounts k
 from_none amounts k = ap amounts (let e : 0 + k ≡ k = omega arith in e)

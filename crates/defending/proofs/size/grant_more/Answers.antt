@@ -14,7 +14,7 @@ pub loop-k-preserved : goal.loop-k-preserved
 loop-k-preserved c =
     let here : c.loop-k.k < length c.loop-k.granted = omega (arith, c.requires.term, c.loop-k.auto.granted, c.loop-k-test.true) in
     let more : c.min.result ≡ min (get_or c.args.granted.now c.loop-k.k 0 + held_on (c.args.request.now.start + c.loop-k.k) c.args.one.now) c.args.request.now.mw =
-    capped _ _ _ _ _ _ c.args.request.now.mw c.min.ensures c.saturating-add.ensures (c.loop-k.invariant.untouched c.loop-k.k (omega arith)) c.held-on-held.ensures (search rules) in
+    capped _ _ _ _ _ _ c.args.request.now.mw c.min.ensures c.saturating_add.ensures (c.loop-k.invariant.untouched c.loop-k.k (omega arith)) c.held_on-held.ensures (search rules) in
     set_next _ c.args.granted.now c.loop-k.granted c.loop-k.k c.min.result c.loop-k.invariant here more
 
 pub returns : goal.returns

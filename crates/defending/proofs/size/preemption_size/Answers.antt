@@ -13,7 +13,7 @@ use Rattle.defending.proofs.CountingInLine.{unread, in_a_place, few_days, counte
 use Rattle.defending.proofs.ShelfReads.{never_none}
 use Rattle.defending.proofs.ShownInLine.{free_is}
 use Rattle.defending.proofs.size.preemption_size.Goals as goal
-use Rattle.defending.proofs.size.preemption_size.Goals.{in-Some, in-default}
+use Rattle.defending.proofs.size.preemption_size.Goals.{in-Some, in_default}
 
 pub loop-j-init : goal.loop-j-init
 loop-j-init c =
@@ -21,25 +21,25 @@ loop-j-init c =
       search rules,
       search rules,
       omega arith,
-      counted_none r (view d).lines c.first-short-short.result c.first-granted-granted.result
-          (λ k h. c.first-short-short.ensures k h ∙ ap (λ n. r.mw - n) (free_is d c.requires.sound _ (omega (arith, c.requires.offered))))
-          (λ k h. c.first-granted-granted.ensures k h ∙ ap (λ n. min n r.mw) (free_is d c.requires.sound _ (omega (arith, c.requires.offered)))),
+      counted_none r (view d).lines c.first_short-short.result c.first_granted-granted.result
+          (λ k h. c.first_short-short.ensures k h ∙ ap (λ n. r.mw - n) (free_is d c.requires.sound _ (omega (arith, c.requires.offered))))
+          (λ k h. c.first_granted-granted.ensures k h ∙ ap (λ n. min n r.mw) (free_is d c.requires.sound _ (omega (arith, c.requires.offered)))),
     )
 
 pub bounds-places-next : goal.bounds-places-next
 bounds-places-next c = in_a_place c.args.desk.now c.requires.sound (contents c.args.shelf.now) c.requires.there c.loop-j.j (omega (arith, c.loop-j-test.true, c.len-j-end.ensures)) c.in-Some.next c.in-Some.ensures
 
-pub offset-bounds-places-next : goal.offset-bounds-places-next
-offset-bounds-places-next c = let h = bounds-places-next c in search rules
+pub offset_bounds-places-next : goal.offset_bounds-places-next
+offset_bounds-places-next c = let h = bounds-places-next c in search rules
 
-pub slice-bounds-count-visit-end : goal.slice-bounds-count-visit-end
-slice-bounds-count-visit-end c = let h = c.loop-j.invariant.0 in search rules
+pub slice_bounds-count_visit-end : goal.slice_bounds-count_visit-end
+slice_bounds-count_visit-end c = let h = c.loop-j.invariant.0 in search rules
 
-pub slice-bounds-count-visit-end-in-Some : goal.slice-bounds-count-visit-end-in-Some
-slice-bounds-count-visit-end-in-Some c = let h = c.loop-j.invariant.1 in search rules
+pub slice_bounds-count_visit-end-in-Some : goal.slice_bounds-count_visit-end-in-Some
+slice_bounds-count_visit-end-in-Some c = let h = c.loop-j.invariant.1 in search rules
 
-pub count-visit-lines-requires : goal.count-visit-lines-requires
-count-visit-lines-requires c = record {
+pub count_visit-lines-requires : goal.count_visit-lines-requires
+count_visit-lines-requires c = record {
   reach = omega (arith, c.requires.offered, c.requires.sound.kept.days);
   own = few_days c.args.desk.now c.requires.sound (contents c.args.shelf.now) c.requires.there c.loop-j.j (omega (arith, c.loop-j-test.true, c.len-j-end.ensures)) c.in-Some.next c.in-Some.ensures _;
   short = omega (arith, c.requires.term, c.loop-j.invariant.0);
@@ -50,10 +50,10 @@ count-visit-lines-requires c = record {
 few_entries : (d : Desk) → Sound d → (xs : List Defender) → length xs ≤ length d.places.now → length xs ≤ 128
 few_entries d S xs h = omega (arith, S.kept.few-places, length-map d.places.now entry_of)
 
-pub overflow-add-lines : goal.overflow-add-lines
-overflow-add-lines c =
+pub overflow_add-lines : goal.overflow_add-lines
+overflow_add-lines c =
     let own = few_days c.args.desk.now c.requires.sound (contents c.args.shelf.now) c.requires.there c.loop-j.j (omega (arith, c.loop-j-test.true, c.len-j-end.ensures)) c.in-Some.next c.in-Some.ensures unread in
-    omega (arith, c.count-visit-lines.ensures.lines, few_written (get_or c.args.desk.now.places.now c.in-Some.next.place unread) c.args.request.now c.loop-j.short own c.requires.term, c.loop-j.invariant.2, c.loop-j-test.true, c.len-j-end.ensures, few_entries c.args.desk.now c.requires.sound (contents c.args.shelf.now) c.requires.few)
+    omega (arith, c.count_visit-lines.ensures.lines, few_written (get_or c.args.desk.now.places.now c.in-Some.next.place unread) c.args.request.now c.loop-j.short own c.requires.term, c.loop-j.invariant.2, c.loop-j-test.true, c.len-j-end.ensures, few_entries c.args.desk.now c.requires.sound (contents c.args.shelf.now) c.requires.few)
 
 pub loop-j-preserved : goal.loop-j-preserved
 loop-j-preserved c =
@@ -65,19 +65,19 @@ loop-j-preserved c =
           let own = few_days d c.requires.sound xs c.requires.there c.loop-j.j here w.in-Some.next w.in-Some.ensures unread in
           let few = few_written (get_or d.places.now w.in-Some.next.place unread) r c.loop-j.short own c.requires.term in
           let next = counted_next d c.requires.sound xs c.requires.there c.loop-j.j here w.in-Some.next w.in-Some.ensures unread r c.loop-j.short c.loop-j.granted c.loop-j.lines c.loop-j.invariant.3
-          w.count-visit-lines.new.short w.count-visit-lines.new.granted w.count-visit-lines.result w.count-visit-lines.ensures.taken w.count-visit-lines.ensures.granted w.count-visit-lines.ensures.lines in
-          rw (w.short_is, w.granted-is, w.lines-is) (w.count-visit-lines.auto.short ∙ c.loop-j.invariant.0, w.count-visit-lines.auto.granted ∙ c.loop-j.invariant.1, omega (arith, w.count-visit-lines.ensures.lines, few, c.loop-j.invariant.2), next)
-      | in-default w ↦ absurd (never_none xs c.loop-j.j here w.in-default.ensures)
+          w.count_visit-lines.new.short w.count_visit-lines.new.granted w.count_visit-lines.result w.count_visit-lines.ensures.taken w.count_visit-lines.ensures.granted w.count_visit-lines.ensures.lines in
+          rw (w.short_is, w.granted-is, w.lines-is) (w.count_visit-lines.auto.short ∙ c.loop-j.invariant.0, w.count_visit-lines.auto.granted ∙ c.loop-j.invariant.1, omega (arith, w.count_visit-lines.ensures.lines, few, c.loop-j.invariant.2), next)
+      | in_default w ↦ absurd (never_none xs c.loop-j.j here w.in_default.ensures)
     ]
 
-pub slice-bounds-count-busy-end : goal.slice-bounds-count-busy-end
-slice-bounds-count-busy-end c = let h = c.loop-j.invariant.1 in search rules
+pub slice_bounds-count_busy-end : goal.slice_bounds-count_busy-end
+slice_bounds-count_busy-end c = let h = c.loop-j.invariant.1 in search rules
 
-pub count-busy-requires : goal.count-busy-requires
-count-busy-requires c = omega (arith, c.requires.term, c.loop-j.invariant.1)
+pub count_busy-requires : goal.count_busy-requires
+count_busy-requires c = omega (arith, c.requires.term, c.loop-j.invariant.1)
 
 -- and the lines are few
-few_lines : (c : goal.After-count-busy) → c.loop-j.lines + c.count-busy.result ≤ 4000
+few_lines : (c : goal.After-count_busy) → c.loop-j.lines + c.count_busy.result ≤ 4000
 few_lines c =
     omega (
       arith,
@@ -85,20 +85,20 @@ few_lines c =
       c.loop-j.auto.j-end,
       c.len-j-end.ensures,
       few_entries c.args.desk.now c.requires.sound (contents c.args.shelf.now) c.requires.few,
-      c.count-busy.ensures,
+      c.count_busy.ensures,
       busy_few (λ k. get_or c.loop-j.granted k 0) 0 c.args.request.now.length,
       c.requires.term,
     )
 
-pub overflow-add-result : goal.overflow-add-result
-overflow-add-result c = omega (arith, few_lines c)
+pub overflow_add-result : goal.overflow_add-result
+overflow_add-result c = omega (arith, few_lines c)
 
-pub overflow-cast-result : goal.overflow-cast-result
-overflow-cast-result c = omega (arith, few_lines c)
+pub overflow_cast-result : goal.overflow_cast-result
+overflow_cast-result c = omega (arith, few_lines c)
 
 pub returns : goal.returns
 returns c =
     let v = view c.args.desk.now in let r = c.args.request.now in
     let all = take_all c.loop-j.j (contents c.args.shelf.now) (omega (arith, c.loop-j-test.false, c.len-j-end.ensures)) in
     counted_all r v.lines (lined v.places (contents c.args.shelf.now)) c.loop-j.short c.loop-j.granted c.loop-j.lines
-    (subst (λ xs. Counted r v.lines (lined v.places xs) c.loop-j.short c.loop-j.granted c.loop-j.lines) all c.loop-j.invariant.3) c.count-busy.result c.count-busy.ensures
+    (subst (λ xs. Counted r v.lines (lined v.places xs) c.loop-j.short c.loop-j.granted c.loop-j.lines) all c.loop-j.invariant.3) c.count_busy.result c.count_busy.ensures

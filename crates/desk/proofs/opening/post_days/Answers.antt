@@ -11,8 +11,8 @@ bounds-lines-used c = omega (arith, c.loop-day.invariant.2, busy_here c.args.amo
 pub loop-day-preserved : goal.loop-day-preserved
 loop-day-preserved c =
     elim c.if-mw-gt0.branch [
-      | then-mw-gt0 w ↦ posting_one _ _ _ _ _ _ _ c.loop-day-test.true c.loop-day.invariant c.loop-day.auto.lines w.if-mw-gt0.true w.lines-is w.used_is
-      | else-mw-gt0 w ↦ posting_none _ _ _ _ _ _ _ c.loop-day-test.true c.loop-day.invariant w.if-mw-gt0.false w.lines-is w.used_is
+      | then-mw-gt0 w ↦ posting_one _ _ _ _ _ _ _ c.loop-day-test.true c.loop-day.invariant c.loop-day.auto.lines w.if-mw-gt0.true w.lines-is w.used-is
+      | else-mw-gt0 w ↦ posting_none _ _ _ _ _ _ _ c.loop-day-test.true c.loop-day.invariant w.if-mw-gt0.false w.lines-is w.used-is
     ]
 
 pub returns : goal.returns

@@ -7,8 +7,8 @@ use Rattle.moving.proofs.FromSound.{showing_of}
 use Rattle.later.proofs.OneCall.{stepped, in_places, lives, named}
 use Rattle.later.proofs.by_aref.confirm.Goals as goal
 
-pub confirm-at-requires : goal.confirm-at-requires
-confirm-at-requires c = let d = c.args.desk.now in let P = c.in-Ok.ensures in record { sound = c.requires; within = in_places d _ _ _ _ P; lives = lives d _ _ _ _ P }
+pub confirm_at-requires : goal.confirm_at-requires
+confirm_at-requires c = let d = c.args.desk.now in let P = c.in-Ok.ensures in record { sound = c.requires; within = in_places d _ _ _ _ P; lives = lives d _ _ _ _ P }
 
 pub returns-in-Err : goal.returns-in-Err
 returns-in-Err c =
@@ -22,7 +22,7 @@ pub returns-in-Ok : goal.returns-in-Ok
 returns-in-Ok c =
     let d = c.args.desk.now in let v = view d in let a = c.args.aref in let k = confirm c.args.minute a in let P = c.in-Ok.ensures in
     record {
-      shown = c.confirm-at.ensures.shown;
+      shown = c.confirm_at.ensures.shown;
       says = λ R. stepped R k v _ _ _ (P.goes R k (λ e. makes v.lines (change a stand_confirmed v.places) a Confirmed) (record { at_minute = refl; settles_not = refl; is_by_aref = refl }))
-          (c.confirm-at.ensures.says k refl refl ∙ ap (λ (x : ℕ). written k v (makes v.lines (change x stand_confirmed v.places) x Confirmed)) (named d _ _ _ _ P));
+          (c.confirm_at.ensures.says k refl refl ∙ ap (λ (x : ℕ). written k v (makes v.lines (change x stand_confirmed v.places) x Confirmed)) (named d _ _ _ _ P));
     }

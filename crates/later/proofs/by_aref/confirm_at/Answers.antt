@@ -4,11 +4,11 @@ use Rattle.admitting.proofs.Written.{book_after}
 use Rattle.later.proofs.Confirms.{early, says}
 use Rattle.later.proofs.by_aref.confirm_at.Goals as goal
 
-pub overflow-add-request : goal.overflow-add-request
-overflow-add-request c = omega (arith, early c.args.desk.now c.requires.sound c.args.i c.requires.within c.requires.lives)
+pub overflow_add-request : goal.overflow_add-request
+overflow_add-request c = omega (arith, early c.args.desk.now c.requires.sound c.args.i c.requires.within c.requires.lives)
 
-pub overflow-mul-request : goal.overflow-mul-request
-overflow-mul-request c = omega (arith, early c.args.desk.now c.requires.sound c.args.i c.requires.within c.requires.lives)
+pub overflow_mul-request : goal.overflow_mul-request
+overflow_mul-request c = omega (arith, early c.args.desk.now c.requires.sound c.args.i c.requires.within c.requires.lives)
 
 pub returns : goal.returns
 returns c =

@@ -5,8 +5,8 @@ use Rattle.moving.proofs.FromSound.{showing_of}
 use Rattle.later.proofs.OneCall.{stepped, in_places, lives}
 use Rattle.later.proofs.by_aref.decline.Goals as goal
 
-pub decline-at-requires : goal.decline-at-requires
-decline-at-requires g c = let d = c.args.desk.now in let P = c.in-Ok.ensures in record { sound = c.requires; within = in_places d _ _ _ _ P; lives = lives d _ _ _ _ P; early = P.early }
+pub decline_at-requires : goal.decline_at-requires
+decline_at-requires g c = let d = c.args.desk.now in let P = c.in-Ok.ensures in record { sound = c.requires; within = in_places d _ _ _ _ P; lives = lives d _ _ _ _ P; early = P.early }
 
 pub returns-in-Err : goal.returns-in-Err
 returns-in-Err g c =
@@ -20,6 +20,6 @@ pub returns-in-Ok : goal.returns-in-Ok
 returns-in-Ok g c =
     let v = view c.args.desk.now in let t = c.args.minute in let k = decline t c.args.aref in let R = g.S.RuleSheet.rules c.args.sheet.now in
     record {
-      shown = c.decline-at.ensures.shown;
-      says = stepped R k v _ _ _ (c.in-Ok.ensures.goes R k (λ e. declined R t e v) (record { at_minute = refl; settles_not = refl; is_by_aref = refl })) (c.decline-at.ensures.says k refl refl);
+      shown = c.decline_at.ensures.shown;
+      says = stepped R k v _ _ _ (c.in-Ok.ensures.goes R k (λ e. declined R t e v) (record { at_minute = refl; settles_not = refl; is_by_aref = refl })) (c.decline_at.ensures.says k refl refl);
     }

@@ -5,8 +5,8 @@ use Rattle.moving.proofs.FromSound.{showing_of}
 use Rattle.later.proofs.OneCall.{stepped, in_places, lives}
 use Rattle.later.proofs.by_aref.withdraw.Goals as goal
 
-pub let-go-requires : goal.let-go-requires
-let-go-requires c = let d = c.args.desk.now in let P = c.in-Ok.ensures in record { sound = c.requires; within = in_places d _ _ _ _ P; lives = lives d _ _ _ _ P }
+pub let_go-requires : goal.let_go-requires
+let_go-requires c = let d = c.args.desk.now in let P = c.in-Ok.ensures in record { sound = c.requires; within = in_places d _ _ _ _ P; lives = lives d _ _ _ _ P }
 
 pub returns-in-Err : goal.returns-in-Err
 returns-in-Err c =
@@ -20,6 +20,6 @@ pub returns-in-Ok : goal.returns-in-Ok
 returns-in-Ok c =
     let v = view c.args.desk.now in let t = c.args.minute in let k = withdraw t c.args.aref in
     record {
-      shown = c.let-go.ensures.shown;
-      says = λ R. stepped R k v _ _ _ (c.in-Ok.ensures.goes R k (λ e. let_go t e v) (record { at_minute = refl; settles_not = refl; is_by_aref = refl })) (c.let-go.ensures.says k refl refl);
+      shown = c.let_go.ensures.shown;
+      says = λ R. stepped R k v _ _ _ (c.in-Ok.ensures.goes R k (λ e. let_go t e v) (record { at_minute = refl; settles_not = refl; is_by_aref = refl })) (c.let_go.ensures.says k refl refl);
     }

@@ -3,5 +3,5 @@ use Rattle.std.proofs.lemmas.List.{length-map}
 use Rattle.desk.specs.Records.{entry_of}
 use Rattle.later.proofs.settling.earliest.Goals as goal
 
-pub first-due-requires : goal.first-due-requires
-first-due-requires c = omega (arith, c.requires.kept.few-places, length-map c.args.desk.now.places.now entry_of)
+pub first_due-requires : goal.first_due-requires
+first_due-requires c = omega (arith, c.requires.kept.few-places, length-map c.args.desk.now.places.now entry_of)

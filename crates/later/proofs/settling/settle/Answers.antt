@@ -13,11 +13,11 @@ returns-in-Err g c =
     let d = c.args.desk.now in let k = settle c.args.minute in let R = g.S.RuleSheet.rules c.args.sheet.now in
     record { shown = showing_of d c.requires; says = stepped R k (view d) _ _ _ (c.in-Err.ensures R k refl refl) refl }
 
-pub settle-at-requires : goal.settle-at-requires
-settle-at-requires g c = record {
+pub settle_at-requires : goal.settle_at-requires
+settle_at-requires g c = record {
   sound = c.requires;
   within = omega (arith, c.in-Some.ensures.within, length-map c.args.desk.now.places.now entry_of);
-  early = c.in-default.ensures.0;
+  early = c.in_default.ensures.0;
 }
 
 pub returns-in-None : goal.returns-in-None
@@ -25,13 +25,13 @@ returns-in-None g c =
     let d = c.args.desk.now in let v = view d in let t = c.args.minute in let k = settle t in let R = g.S.RuleSheet.rules c.args.sheet.now in
     record {
       shown = showing_of d c.requires;
-      says = stepped R k v _ _ _ (c.in-default.ensures.1 R k refl refl ∙ ap (λ (e : Entry). settles R t e v e.standing.state) c.in-None.ensures.first) refl;
+      says = stepped R k v _ _ _ (c.in_default.ensures.1 R k refl refl ∙ ap (λ (e : Entry). settles R t e v e.standing.state) c.in-None.ensures.first) refl;
     }
 
 pub returns-in-Some : goal.returns-in-Some
 returns-in-Some g c =
     let d = c.args.desk.now in let v = view d in let t = c.args.minute in let k = settle t in let R = g.S.RuleSheet.rules c.args.sheet.now in
     record {
-      shown = c.settle-at.ensures.shown;
-      says = stepped R k v _ _ _ (c.in-default.ensures.1 R k refl refl ∙ ap (λ (e : Entry). settles R t e v e.standing.state) c.in-Some.ensures.first) (c.settle-at.ensures.says k refl refl);
+      shown = c.settle_at.ensures.shown;
+      says = stepped R k v _ _ _ (c.in_default.ensures.1 R k refl refl ∙ ap (λ (e : Entry). settles R t e v e.standing.state) c.in-Some.ensures.first) (c.settle_at.ensures.says k refl refl);
     }

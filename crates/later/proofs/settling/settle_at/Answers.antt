@@ -6,8 +6,8 @@ use Rattle.later.proofs.settling.settle_at.Goals as goal
 pub fly-requires : goal.fly-requires
 fly-requires g c = let p = c.requires in record { sound = p.sound; within = p.within; lives = lives_in c.args.desk.now c.args.i p.within _ c.in-Confirmed.is refl }
 
-pub let-go-requires : goal.let-go-requires
-let-go-requires g c =
+pub let_go-requires : goal.let_go-requires
+let_go-requires g c =
     let p = c.requires in
     record {
       sound = p.sound;
@@ -18,8 +18,8 @@ let-go-requires g c =
       ];
     }
 
-pub decline-at-requires : goal.decline-at-requires
-decline-at-requires g c = let p = c.requires in record { sound = p.sound; within = p.within; lives = lives_in c.args.desk.now c.args.i p.within _ c.in-Challenged.is refl; early = p.early }
+pub decline_at-requires : goal.decline_at-requires
+decline_at-requires g c = let p = c.requires in record { sound = p.sound; within = p.within; lives = lives_in c.args.desk.now c.args.i p.within _ c.in-Challenged.is refl; early = p.early }
 
 pub returns-in-Confirmed : goal.returns-in-Confirmed
 returns-in-Confirmed g c = record {
@@ -29,17 +29,17 @@ returns-in-Confirmed g c = record {
 
 pub returns-in-Accepted : goal.returns-in-Accepted
 returns-in-Accepted g c = record {
-  shown = c.let-go.ensures.shown;
+  shown = c.let_go.ensures.shown;
   says = elim c.in-Accepted.is [
-    | inl q ↦ settled_so c.args.desk.now c.args.i c.requires.within _ q (g.S.RuleSheet.rules c.args.sheet.now) c.args.minute _ _ c.let-go.ensures.says
-    | inr q ↦ settled_so c.args.desk.now c.args.i c.requires.within _ q (g.S.RuleSheet.rules c.args.sheet.now) c.args.minute _ _ c.let-go.ensures.says
+    | inl q ↦ settled_so c.args.desk.now c.args.i c.requires.within _ q (g.S.RuleSheet.rules c.args.sheet.now) c.args.minute _ _ c.let_go.ensures.says
+    | inr q ↦ settled_so c.args.desk.now c.args.i c.requires.within _ q (g.S.RuleSheet.rules c.args.sheet.now) c.args.minute _ _ c.let_go.ensures.says
   ];
 }
 
 pub returns-in-Challenged : goal.returns-in-Challenged
 returns-in-Challenged g c = record {
-  shown = c.decline-at.ensures.shown;
-  says = settled_so c.args.desk.now c.args.i c.requires.within _ c.in-Challenged.is (g.S.RuleSheet.rules c.args.sheet.now) c.args.minute _ _ c.decline-at.ensures.says;
+  shown = c.decline_at.ensures.shown;
+  says = settled_so c.args.desk.now c.args.i c.requires.within _ c.in-Challenged.is (g.S.RuleSheet.rules c.args.sheet.now) c.args.minute _ _ c.decline_at.ensures.says;
 }
 
 pub returns-in-Competing : goal.returns-in-Competing

@@ -10,33 +10,33 @@ use Rattle.posting.proofs.TwoPuts.{put_free_length}
 use Rattle.posting.proofs.OneLine.{reach_giver, has_it, reach_taker', small', shown', entries', line_stands, none_posted, same_view}
 use Rattle.posting.proofs.line_posting.post_line.Goals as goal
 
-pub standing-in-requires : goal.standing-in-requires
-standing-in-requires c = reach_giver _ c.requires.shown _ _ _ _ _ _ _ _ c.requires.may c.if-line-gt0.true
+pub standing_in-requires : goal.standing_in-requires
+standing_in-requires c = reach_giver _ c.requires.shown _ _ _ _ _ _ _ _ c.requires.may c.if-line-gt0.true
 
-pub overflow-sub-left : goal.overflow-sub-left
-overflow-sub-left c = omega (arith, c.standing-in.ensures, has_it _ c.requires.shown _ _ _ _ _ _ _ _ c.requires.may c.if-line-gt0.true)
+pub overflow_sub-left : goal.overflow_sub-left
+overflow_sub-left c = omega (arith, c.standing_in.ensures, has_it _ c.requires.shown _ _ _ _ _ _ _ _ c.requires.may c.if-line-gt0.true)
 
 pub put-requires : goal.put-requires
 put-requires c = reach_giver _ c.requires.shown _ _ _ _ _ _ _ _ c.requires.may c.if-line-gt0.true
 
-pub standing-in-requires-then-line-gt0 : goal.standing-in-requires-then-line-gt0
-standing-in-requires-then-line-gt0 c = reach_taker' _ c.requires.shown _ _ _ _ _ _ _ _ c.requires.may c.if-line-gt0.true c.standing-in.result _ _ c.standing-in.ensures c.put.ensures.free c.put.ensures.places
+pub standing_in-requires-then-line-gt0 : goal.standing_in-requires-then-line-gt0
+standing_in-requires-then-line-gt0 c = reach_taker' _ c.requires.shown _ _ _ _ _ _ _ _ c.requires.may c.if-line-gt0.true c.standing_in.result _ _ c.standing_in.ensures c.put.ensures.free c.put.ensures.places
 
-pub overflow-add-more : goal.overflow-add-more
-overflow-add-more c = let s = small' _ c.requires.shown _ _ _ _ _ _ _ _ c.requires.may c.if-line-gt0.true c.standing-in.result _ _ c.standing-in.ensures c.put.ensures.free c.put.ensures.places in omega (arith, c.standing-in-then-line-gt0.ensures)
+pub overflow_add-more : goal.overflow_add-more
+overflow_add-more c = let s = small' _ c.requires.shown _ _ _ _ _ _ _ _ c.requires.may c.if-line-gt0.true c.standing_in.result _ _ c.standing_in.ensures c.put.ensures.free c.put.ensures.places in omega (arith, c.standing_in-then-line-gt0.ensures)
 
 pub put-requires-then-line-gt0 : goal.put-requires-then-line-gt0
-put-requires-then-line-gt0 c = reach_taker' _ c.requires.shown _ _ _ _ _ _ _ _ c.requires.may c.if-line-gt0.true c.standing-in.result _ _ c.standing-in.ensures c.put.ensures.free c.put.ensures.places
+put-requires-then-line-gt0 c = reach_taker' _ c.requires.shown _ _ _ _ _ _ _ _ c.requires.may c.if-line-gt0.true c.standing_in.result _ _ c.standing_in.ensures c.put.ensures.free c.put.ensures.places
 
 pub returns-then-line-gt0 : goal.returns-then-line-gt0
 returns-then-line-gt0 c =
     let d = c.args.desk.now in let y = c.put-then-line-gt0.new.desk in let l = c.args.line in
     let ls = post l.minute l.kind l.a l.b l.day l.mw (view d).lines in
     let first = c.put.ensures in let second = c.put-then-line-gt0.ensures in
-    let S : Shown (balance ls) y.free.now y.places.now = shown' _ c.requires.shown _ _ _ _ _ _ _ _ c.requires.may c.if-line-gt0.true c.standing-in.result _ _ c.standing-in.ensures first.free first.places
-    c.standing-in-then-line-gt0.result _ _ c.standing-in-then-line-gt0.ensures second.free second.places in
-    let es : (view y).places ≡ (view d).places = entries' _ c.requires.shown _ _ _ _ _ _ _ _ c.requires.may c.if-line-gt0.true c.standing-in.result _ _ c.standing-in.ensures first.free first.places
-    c.standing-in-then-line-gt0.result _ second.places in
+    let S : Shown (balance ls) y.free.now y.places.now = shown' _ c.requires.shown _ _ _ _ _ _ _ _ c.requires.may c.if-line-gt0.true c.standing_in.result _ _ c.standing_in.ensures first.free first.places
+    c.standing_in-then-line-gt0.result _ _ c.standing_in-then-line-gt0.ensures second.free second.places in
+    let es : (view y).places ≡ (view d).places = entries' _ c.requires.shown _ _ _ _ _ _ _ _ c.requires.may c.if-line-gt0.true c.standing_in.result _ _ c.standing_in.ensures first.free first.places
+    c.standing_in-then-line-gt0.result _ second.places in
     let el : y.lines.now ≡ set d.lines.now d.used l = second.lines ∙ first.lines in
     let eu : y.used ≡ d.used + 1 = second.used ∙ first.used in
     let long : length y.lines.now ≡ length d.lines.now = ap length el ∙ length-set d.lines.now d.used l in

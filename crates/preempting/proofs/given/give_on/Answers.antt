@@ -21,13 +21,13 @@ returns-then-day-request c =
     let same = nothing_given d c.requires.midway g r c.requires.may c.args.day c.requires.own.0 c.requires.own.1 out in
     record { midway = c.requires.midway; view = sym (ap (with_lines (view d)) same); short = subst (λ ms. ShortShown r ms c.args.short.now) (sym same) c.requires.short; left = omega arith }
 
-pub standing-in-requires : goal.standing-in-requires
-standing-in-requires c = giver_reached c.args.desk.now c.requires.midway c.args.giving.now c.args.request.now c.requires.may c.args.day c.requires.own.0 c.requires.own.1
+pub standing_in-requires : goal.standing_in-requires
+standing_in-requires c = giver_reached c.args.desk.now c.requires.midway c.args.giving.now c.args.request.now c.requires.may c.args.day c.requires.own.0 c.requires.own.1
 
-pub post-line-requires : goal.post-line-requires
-post-line-requires c =
+pub post_line-requires : goal.post_line-requires
+post_line-requires c =
     let d = c.args.desk.now in let g = c.args.giving.now in let r = c.args.request.now in
-    let is = c.min-mw.ensures ∙ ap (λ (n : ℕ). min n (get_or c.args.short.now (c.args.day - r.start) 0)) c.standing-in.ensures in
+    let is = c.min-mw.ensures ∙ ap (λ (n : ℕ). min n (get_or c.args.short.now (c.args.day - r.start) 0)) c.standing_in.ensures in
     let P = given_postable d c.requires.midway g r c.requires.may c.args.day c.requires.own.0 c.requires.own.1 c.if-day-request.false c.if-day-request-2.false c.requires.month c.args.short.now c.requires.short c.min-mw.result is c.requires.roomy in
     record {
       shown = c.requires.midway.showing;
@@ -38,11 +38,11 @@ post-line-requires c =
 pub returns : goal.returns
 returns c =
     let d = c.args.desk.now in let g = c.args.giving.now in let r = c.args.request.now in
-    let is = c.min-mw.ensures ∙ ap (λ (n : ℕ). min n (get_or c.args.short.now (c.args.day - r.start) 0)) c.standing-in.ensures in
-    let V = c.post-line.ensures.view ∙ ap (λ (k : LineKind). with_lines (view d) (post g.minute k g.aref r.aref c.args.day c.min-mw.result (view d).lines)) c.kind.ensures in
+    let is = c.min-mw.ensures ∙ ap (λ (n : ℕ). min n (get_or c.args.short.now (c.args.day - r.start) 0)) c.standing_in.ensures in
+    let V = c.post_line.ensures.view ∙ ap (λ (k : LineKind). with_lines (view d) (post g.minute k g.aref r.aref c.args.day c.min-mw.result (view d).lines)) c.kind.ensures in
     let p = posts_it d c.requires.midway g r c.requires.may c.args.day c.requires.own.0 c.requires.own.1 c.if-day-request.false c.if-day-request-2.false c.requires.month c.args.short.now c.requires.short c.min-mw.result is in
     record {
-      midway = given_midway d c.requires.midway g r c.requires.may c.args.day c.requires.own.0 c.requires.own.1 c.if-day-request.false c.if-day-request-2.false c.requires.month c.args.short.now c.requires.short c.min-mw.result is c.post-line.new.desk c.post-line.ensures.shown V;
+      midway = given_midway d c.requires.midway g r c.requires.may c.args.day c.requires.own.0 c.requires.own.1 c.if-day-request.false c.if-day-request-2.false c.requires.month c.args.short.now c.requires.short c.min-mw.result is c.post_line.new.desk c.post_line.ensures.shown V;
       view = V ∙ ap (with_lines (view d)) p;
       short = given_short d c.requires.midway g r c.requires.may c.args.day c.requires.own.0 c.requires.own.1 c.if-day-request.false c.if-day-request-2.false c.requires.month c.args.short.now c.requires.short c.min-mw.result is;
       left = sum_less c.args.short.now r.length (c.args.day - r.start) c.min-mw.result (omega (arith, c.if-day-request-2.false, c.if-day-request.false)) (omega (arith, c.requires.short.days, c.requires.month)) (omega (arith, c.min-mw.ensures));

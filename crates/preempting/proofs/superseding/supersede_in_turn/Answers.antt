@@ -19,8 +19,8 @@ loop-j-init c =
     let v = view c.args.desk.now in let f = superseding c.args.minute c.args.request.now in let ds = lined v.places (contents c.args.defenders.now) in
     (c.requires.midway, sym (ap (with_lines v) (visits_none f ds v.lines)), subst (λ ls. ShortShown c.args.request.now ls c.args.short.now) (sym (visits_none f ds v.lines)) c.requires.short)
 
-pub supersede-if-needed-requires : goal.supersede-if-needed-requires
-supersede-if-needed-requires c =
+pub supersede_if_needed-requires : goal.supersede_if_needed-requires
+supersede_if_needed-requires c =
     let d = c.args.desk.now in let v = view d in let r = c.args.request.now in let t = c.args.minute in let xs = contents c.args.defenders.now in let j = c.loop-j.j in
     let ds = lined v.places xs in let ls = visits (superseding t r) (take j ds) v.lines in
     let lt : j < length xs = omega (arith, c.loop-j-test.true, c.len-j-end.ensures) in
@@ -56,13 +56,13 @@ loop-j-preserved c =
     let more = visits_more (superseding t r) ds j (entry_at v.places x.place) v.lines (omega (arith, lt, length-map xs (λ y. entry_at v.places y.place))) e in
     let step : superseding t r (entry_at (view c.loop-j.desk).places x.place) (view c.loop-j.desk).lines ≡ visits (superseding t r) (take (j + 1) ds) v.lines
     = ap (λ (y : Entry). superseding t r y (view c.loop-j.desk).lines) s ∙ (ap (λ (w : View). superseding t r (entry_at v.places x.place) w.lines) V ∙ sym more) in (
-      c.supersede-if-needed.ensures.midway,
-      c.supersede-if-needed.ensures.view ∙ (ap (with_lines (view c.loop-j.desk)) step ∙ ap (λ (w : View). with_lines w (visits (superseding t r) (take (j + 1) ds) v.lines)) V),
-      subst (λ ms. ShortShown r ms c.supersede-if-needed.new.short) step c.supersede-if-needed.ensures.short,
+      c.supersede_if_needed.ensures.midway,
+      c.supersede_if_needed.ensures.view ∙ (ap (with_lines (view c.loop-j.desk)) step ∙ ap (λ (w : View). with_lines w (visits (superseding t r) (take (j + 1) ds) v.lines)) V),
+      subst (λ ms. ShortShown r ms c.supersede_if_needed.new.short) step c.supersede_if_needed.ensures.short,
     )
 
-pub returns-in-default : goal.returns-in-default
-returns-in-default c = absurd (never_none (contents c.args.defenders.now) c.loop-j.j (omega (arith, c.loop-j-test.true, c.len-j-end.ensures)) c.in-default.ensures)
+pub returns-in_default : goal.returns-in_default
+returns-in_default c = absurd (never_none (contents c.args.defenders.now) c.loop-j.j (omega (arith, c.loop-j-test.true, c.len-j-end.ensures)) c.in_default.ensures)
 
 pub returns : goal.returns
 returns c =

@@ -2,36 +2,36 @@ use Rattle.std.proofs.Common.{rules}
 use Rattle.preempting.proofs.visiting.give_in_turn.Goals as goal
 
 -- src/visiting.rt:61:9
-pub in-all-left-requires : goal.in-all-left-requires
-in-all-left-requires g c = ?
+pub in_all-left-requires : goal.in_all-left-requires
+in_all-left-requires g c = ?
 
 -- src/visiting.rt:62:5
 pub visit-init : goal.visit-init
 visit-init g c = ?
 
 -- src/visiting.rt:64:13
-pub returns-in-default : goal.returns-in-default
-returns-in-default g c = ?
+pub returns-in_default : goal.returns-in_default
+returns-in_default g c = ?
 
 -- src/visiting.rt:66:28
-pub begin-visit-requires : goal.begin-visit-requires
-begin-visit-requires g c = ?
+pub begin_visit-requires : goal.begin_visit-requires
+begin_visit-requires g c = ?
 
 -- src/visiting.rt:62:5
-pub visit-preserved-in-default-begin-visit : goal.visit-preserved-in-default-begin-visit
-visit-preserved-in-default-begin-visit g c = ?
+pub visit-preserved-in_default-begin_visit : goal.visit-preserved-in_default-begin_visit
+visit-preserved-in_default-begin_visit g c = ?
 
 -- src/visiting.rt:69:9
 pub loop-k-init : goal.loop-k-init
 loop-k-init g c = ?
 
 -- src/visiting.rt:70:21
-pub give-on-left-requires : goal.give-on-left-requires
-give-on-left-requires g c = ?
+pub give_on-left-requires : goal.give_on-left-requires
+give_on-left-requires g c = ?
 
 -- src/visiting.rt:70:13
-pub overflow-sub-left : goal.overflow-sub-left
-overflow-sub-left g c = ?
+pub overflow_sub-left : goal.overflow_sub-left
+overflow_sub-left g c = ?
 
 -- src/visiting.rt:69:9
 pub loop-k-preserved : goal.loop-k-preserved

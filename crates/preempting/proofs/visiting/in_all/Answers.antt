@@ -6,8 +6,8 @@ pub loop-k-init : goal.loop-k-init
 loop-k-init c = ?
 
 -- src/visiting.rt:31:9
-pub overflow-add-left : goal.overflow-add-left
-overflow-add-left c = ?
+pub overflow_add-left : goal.overflow_add-left
+overflow_add-left c = ?
 
 -- src/visiting.rt:30:5
 pub loop-k-preserved : goal.loop-k-preserved

@@ -3,8 +3,8 @@ use Rattle.std.proofs.Common.{◌≡◌, length, decimal, arith}
 use Rattle.receipts.proofs.Digits.{one_digit, one_digit_more, at_most_ten_digits}
 use Rattle.receipts.proofs.decimal.decimal_length.Goals as goal
 
-pub overflow-add-digits : goal.overflow-add-digits
-overflow-add-digits c = omega (arith, at_most_ten_digits c.args.n (omega arith))
+pub overflow_add-digits : goal.overflow_add-digits
+overflow_add-digits c = omega (arith, at_most_ten_digits c.args.n (omega arith))
 
 pub loop-rest-preserved : goal.loop-rest-preserved
 loop-rest-preserved c = omega (arith, one_digit_more c.loop-rest.rest c.loop-rest-test.true (omega arith))

@@ -7,16 +7,16 @@ use Rattle.receipts.proofs.Digits.{one_digit, one_digit_more}
 use Rattle.receipts.proofs.Writing.{written_byte, written_before}
 use Rattle.receipts.proofs.decimal.write_decimal.Goals as goal
 
-pub overflow-sub-place : goal.overflow-sub-place
-overflow-sub-place c = omega (arith, decimal_nonempty c.args.n (omega arith))
+pub overflow_sub-place : goal.overflow_sub-place
+overflow_sub-place c = omega (arith, decimal_nonempty c.args.n (omega arith))
 
 pub loop-rest-init : goal.loop-rest-init
 loop-rest-init c =
     let some : 0 < length (decimal c.args.n) = decimal_nonempty c.args.n (omega arith) in
     (refl, omega arith, omega arith, omega arith)
 
-pub overflow-sub-place-in-loop-rest : goal.overflow-sub-place-in-loop-rest
-overflow-sub-place-in-loop-rest c =
+pub overflow_sub-place-in-loop-rest : goal.overflow_sub-place-in-loop-rest
+overflow_sub-place-in-loop-rest c =
     let fits : c.loop-rest.rest < 2 ^ 32 = omega arith in
     omega (arith, one_digit_more c.loop-rest.rest c.loop-rest-test.true fits, decimal_nonempty (c.loop-rest.rest / 10) (omega arith))
 

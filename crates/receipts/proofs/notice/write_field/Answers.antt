@@ -6,17 +6,17 @@ use Rattle.receipts.proofs.Telling.{length-field}
 use Rattle.receipts.proofs.Writing.{length-written, written_byte, written_behind}
 use Rattle.receipts.proofs.notice.write_field.Goals as goal
 
-pub write-decimal-requires : goal.write-decimal-requires
-write-decimal-requires c = omega (arith, length-field c.args.n c.args.end)
+pub write_decimal-requires : goal.write_decimal-requires
+write_decimal-requires c = omega (arith, length-field c.args.n c.args.end)
 
-pub overflow-add-place : goal.overflow-add-place
-overflow-add-place c = omega (arith, length-field c.args.n c.args.end)
+pub overflow_add-place : goal.overflow_add-place
+overflow_add-place c = omega (arith, length-field c.args.n c.args.end)
 
 pub bounds-out-place : goal.bounds-out-place
 bounds-out-place c = omega (arith, length-field c.args.n c.args.end)
 
-pub overflow-add-result : goal.overflow-add-result
-overflow-add-result c = omega (arith, length-field c.args.n c.args.end)
+pub overflow_add-result : goal.overflow_add-result
+overflow_add-result c = omega (arith, length-field c.args.n c.args.end)
 
 pub returns : goal.returns
 unfolding field

@@ -6,16 +6,16 @@ use Rattle.receipts.proofs.Telling.{length-notice}
 use Rattle.receipts.proofs.Writing.{written_three}
 use Rattle.receipts.proofs.notice.write_notice.Goals as goal
 
-pub write-field-kind-at-requires : goal.write-field-kind-at-requires
-write-field-kind-at-requires c = omega (arith, length-notice c.args.line.now)
+pub write_field-kind_at-requires : goal.write_field-kind_at-requires
+write_field-kind_at-requires c = omega (arith, length-notice c.args.line.now)
 
-pub write-field-challenger-at-requires : goal.write-field-challenger-at-requires
-write-field-challenger-at-requires c =
+pub write_field-challenger_at-requires : goal.write_field-challenger_at-requires
+write_field-challenger_at-requires c =
     let kind_is = ap (λ k. length (field k 32)) c.number.ensures in
     omega (arith, kind_is, length-notice c.args.line.now)
 
-pub write-field-requires : goal.write-field-requires
-write-field-requires c =
+pub write_field-requires : goal.write_field-requires
+write_field-requires c =
     let kind_is = ap (λ k. length (field k 32)) c.number.ensures in
     omega (arith, kind_is, length-notice c.args.line.now)
 

@@ -6,5 +6,5 @@ use Rattle.shelf.proofs.Shelf.take_first.Goals as goal
 pub returns : goal.returns
 returns g c = record {
   off = last_used_comes_off_first c.args.self.now.slots.now c.args.self.now.used c.index-self-last.result (omega arith) c.args.self.now.fits;
-  same-room = refl;
+  same_room = refl;
 }
