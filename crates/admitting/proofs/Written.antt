@@ -5,7 +5,7 @@ use Rattle.terms.specs.declared.refusal.Refusal.TheVariants.{JournalFull}
 use Rattle.terms.specs.declared.words.State.{State}
 use Rattle.journal.specs.declared.line.Line.{Line}
 use Rattle.law.specs.View.{View, Entry}
-use Rattle.law.specs.Calls.{Call, makes, refusal, done, minute_of, new_top, written}
+use Rattle.law.specs.Calls.{makes, refusal, done}
 use Rattle.admitting.specs.Writing.{Writes}
 
 -- the book after a call, but for the highest AREF

@@ -1,4 +1,6 @@
 // The first refusals, shared by the calls on a book: the minute, what is due, and whose record a call is for.
+#![tactic(auto)]
+
 ghost use Rattle.admitting.specs.Admission.{is_in, Begun, ComesTo};
 ghost use Rattle.desk.specs.Desks.{view};
 ghost use Rattle.std.specs.Prelude.{◌≡◌};

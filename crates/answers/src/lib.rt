@@ -1,4 +1,6 @@
 // What a call on a book answers when it is accepted.
+#![tactic(auto)]
+
 use terms::words::State;
 
 // The record's AREF and new state, and the lines that the call wrote: the first by its number from 0, and how many.

@@ -1,4 +1,6 @@
 // The bid sheet: point-to-point service ranked by product, length, commitment and price, challenged in the morning.
+#![tactic(auto)]
+
 ghost use Rattle.std.specs.Prelude.{◌≡◌};
 ghost use Rattle.bid.specs.Bid.{bid, bid_until, bid_open_until};
 ghost use Rattle.terms.specs.Days.{days_of};

@@ -1,4 +1,6 @@
 // One line's book over lent memory, under a rule sheet.
+#![tactic(auto)]
+
 ghost use Rattle.std.specs.Prelude.{◌≡◌};
 ghost use Rattle.desk.specs.DaySums.{sums_of, ComeTo};
 ghost use Rattle.desk.specs.Desks.{view, refusal_over, OpenedOver};

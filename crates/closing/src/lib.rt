@@ -1,4 +1,6 @@
 // Matches that close: when the last one does, its challenger is confirmed, gone or offered.
+#![tactic(auto)]
+
 ghost use Rattle.std.specs.Prelude.{◌≡◌, ◌+◌, ◌<◌, ◌≤◌, true, length, slice_index_or};
 ghost use Rattle.closing.specs.LastClosed.{due_of, ClosesAt};
 ghost use Rattle.desk.specs.Desks.{view};

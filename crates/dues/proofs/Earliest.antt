@@ -1,9 +1,9 @@
 -- The earliest of some items: taken from the front or from the back, it is the same.
-use Rattle.std.proofs.Common.{◌≡◌, ℕ, ◌<◌, ◌≤◌, Bool, true, false, cond, eqb, ltb, ◌⊎◌, List, [], ◌∷◌, filter, sym, refl, ap, ◌∙◌, inl, inr, arith}
+use Rattle.std.proofs.Common.{◌≡◌, true, false, cond, ◌⊎◌, List, [], ◌∷◌, refl, ap, ◌∙◌, inl, inr, arith}
 use Rattle.std.proofs.lemmas.Bool.{cases_Bool, cond-true, cond-false}
 use Rattle.std.proofs.lemmas.Bool.Decides.{nat_tests}
-use Rattle.law.specs.View.{Entry, aref_of}
-use Rattle.law.specs.Calls.{sooner, earliest, is_due, first_due}
+use Rattle.law.specs.View.{Entry}
+use Rattle.law.specs.Calls.{sooner, earliest}
 
 -- the one, unless the other is sooner
 abbrev pub sooner_of : Entry → Entry → Entry

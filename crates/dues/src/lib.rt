@@ -1,4 +1,6 @@
 // What falls due first.
+#![tactic(auto)]
+
 ghost use Rattle.std.specs.Prelude.{◌≤◌, map, length};
 ghost use Rattle.desk.specs.Records.{entry_of};
 ghost use Rattle.dues.specs.FirstDue.{IsFirstDue};

@@ -1,4 +1,6 @@
 // Worked runs of the definitions: the functions carry what they show and do nothing when run.
+#![tactic(auto)]
+
 ghost use Rattle.sheets.specs.Laws.{Lawful};
 ghost use Rattle.examples.specs.AlwaysOpen.{always_open};
 ghost use Rattle.examples.specs.Witness.{Witness};

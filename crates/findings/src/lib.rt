@@ -1,4 +1,6 @@
 // What a sheet says of a record that a challenger meets, and the record's turn among others.
+#![tactic(auto)]
+
 ghost use Rattle.std.specs.Prelude.{◌≡◌, ◌+◌, count_by};
 ghost use Rattle.findings.specs.Finding.{found};
 ghost use Rattle.terms.specs.Days.{days_of};

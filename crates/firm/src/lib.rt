@@ -1,4 +1,6 @@
 // The firm sheet: daily, weekly and monthly firm service, point-to-point and network.
+#![tactic(auto)]
+
 ghost use Rattle.std.specs.Prelude.{◌≡◌, ◌^◌, ◌<◌};
 ghost use Rattle.sheets.specs.Turn.{turn_by};
 ghost use Rattle.firm.specs.Firm.{firm, outlasts, firm_order, firm_in_time_until, firm_open_until, firm_confirmed_until, firm_confirm_time};

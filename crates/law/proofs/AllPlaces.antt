@@ -1,5 +1,5 @@
 -- What holds of each place still holds after a change.
-use Rattle.std.proofs.Common.{ℕ, ◌-◌, Bool, true, false, cond, List, [], ◌∷◌, map, filter}
+use Rattle.std.proofs.Common.{ℕ, Bool, true, false, cond, List, [], ◌∷◌, map, filter}
 use Rattle.std.specs.List.{AllByRecursion as All}
 use Rattle.sheets.specs.Rules.{Rules}
 use Rattle.shelf.specs.Order.{put}

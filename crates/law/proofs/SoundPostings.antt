@@ -1,5 +1,5 @@
 -- Every call writes only lines that are paid for.
-use Rattle.std.proofs.Common.{ℕ, ◌-◌, ◌<◌, min, Bool, true, false, cond, List, [], ◌∷◌, arith}
+use Rattle.std.proofs.Common.{ℕ, ◌<◌, min, Bool, true, false, cond, List, [], ◌∷◌, arith}
 use Rattle.std.specs.List.{AllByRecursion as All}
 use Rattle.terms.specs.declared.request.Request.{Request}
 use Rattle.terms.specs.Words.{is_pending}

@@ -1,4 +1,6 @@
 // Looking through the places of a book: what is due, whose match is open, who stands where, and which place is free.
+#![tactic(auto)]
+
 ghost use Rattle.std.specs.Prelude.{◌≡◌, not, map};
 ghost use Rattle.desk.specs.Records.{entry_of};
 ghost use Rattle.law.specs.Calls.{falls_due, is_due};

@@ -1,5 +1,5 @@
 -- Steps of a loop that tests each of some days: what is left to test decides.
-use Rattle.std.proofs.Common.{◌≡◌, ℕ, suc, ◌+◌, ◌-◌, ◌<◌, ◌≤◌, Bool, true, false, ◌&&◌, sym, refl, ap, ◌∙◌, arith}
+use Rattle.std.proofs.Common.{◌≡◌, ℕ, suc, ◌+◌, ◌-◌, ◌<◌, ◌≤◌, Bool, true, false, ◌&&◌, sym, ap, ◌∙◌, arith}
 use Rattle.law.specs.Posting.{each_day}
 
 module _ (p : ℕ → Bool) (s n : ℕ) where

@@ -1,5 +1,5 @@
 -- One day more of a move: the posting that it makes may be made, and what it leaves.
-use Rattle.std.proofs.Common.{◌≡◌, ℕ, ◌+◌, ◌-◌, ◌<◌, ◌≤◌, min, cond, eqb, ◌⊎◌, List, length, sym, refl, ap, ◌∙◌, subst, inl, inr, arith}
+use Rattle.std.proofs.Common.{◌≡◌, ℕ, ◌+◌, ◌-◌, ◌<◌, ◌≤◌, min, List, length, sym, ap, ◌∙◌, subst, inr, arith}
 use Rattle.std.proofs.lemmas.List.{length-take-le}
 use Rattle.std.proofs.lemmas.Bool.{ne_eqb}
 use Rattle.terms.specs.Days.{Days}
@@ -11,9 +11,7 @@ use Rattle.law.proofs.SoundLines.{Fine, fine_post, fine_days}
 use Rattle.desk.specs.declared.memory.Desk.{Desk}
 use Rattle.desk.specs.Desks.{view}
 use Rattle.posting.specs.Postable.{Showing, Postable, with_lines}
-use Rattle.posting.specs.Sides.{There, Reach, stands, account}
-use Rattle.posting.specs.declared.sides.Side.{Side}
-use Rattle.posting.specs.declared.sides.Side.TheVariants as sides
+use Rattle.posting.specs.Sides.{There, Reach, stands}
 use Rattle.posting.proofs.ShownPut.{stands_is, reach_is}
 use Rattle.moving.specs.declared.Move.{Move}
 use Rattle.moving.specs.Midway.{Midway}

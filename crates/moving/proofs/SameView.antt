@@ -1,9 +1,8 @@
 -- Desks with the same records in their places have the same sides.
-use Rattle.std.proofs.Common.{◌≡◌, ℕ, ◌<◌, ◌≤◌, ◌⊎◌, List, map, length, get_or, sym, refl, ap, ◌∙◌, inl, inr, arith}
+use Rattle.std.proofs.Common.{◌≡◌, ℕ, ◌<◌, ◌≤◌, ◌⊎◌, List, map, length, get_or, sym, ap, ◌∙◌, inl, inr, arith}
 use Rattle.std.proofs.lemmas.List.{length-map, get_or-map, get_or_past}
 use Rattle.std.proofs.lemmas.Bool.{cases_lt}
-use Rattle.journal.specs.Accounts.{Account}
-use Rattle.law.specs.View.{Entry, nobody}
+use Rattle.law.specs.View.{nobody}
 use Rattle.desk.specs.declared.record.Record.{Record}
 use Rattle.desk.specs.Records.{entry_of}
 use Rattle.posting.specs.declared.sides.Side.{Side}

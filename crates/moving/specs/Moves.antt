@@ -2,7 +2,7 @@
 use Rattle.std.specs.Prelude.{◌≡◌, ℕ, ◌+◌, ◌<◌, ◌≤◌, min, ◌≢◌, List, length}
 use Rattle.journal.specs.declared.line.Line.{Line}
 use Rattle.journal.specs.Accounts.{Account, sort, from, to, balance}
-use Rattle.law.specs.Posting.{post, by_day}
+use Rattle.law.specs.Posting.{post}
 use Rattle.desk.specs.declared.memory.Desk.{Desk}
 use Rattle.desk.specs.Desks.{view}
 use Rattle.posting.specs.declared.sides.Side.{Side}

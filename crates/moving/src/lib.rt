@@ -1,4 +1,6 @@
 // Moves of MW by day, and records written whole into their places.
+#![tactic(auto)]
+
 ghost use Rattle.std.specs.Prelude.{◌≡◌, ℕ, ◌+◌, ◌<◌, ◌≤◌, length, slice_set};
 ghost use Rattle.journal.specs.Accounts.{balance};
 ghost use Rattle.law.specs.Posting.{by_day, busy_days};

@@ -1,4 +1,6 @@
 // The non-firm sheet: the firm sheet for point-to-point service alone, between records of equal product.
+#![tactic(auto)]
+
 ghost use Rattle.std.specs.Prelude.{◌≡◌};
 ghost use Rattle.nonfirm.specs.NonFirm.{nonfirm, nonfirm_in_time_until, nonfirm_open_until};
 ghost use Rattle.terms.specs.Days.{days_of};

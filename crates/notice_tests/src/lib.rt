@@ -1,3 +1,5 @@
+#![tactic(auto)]
+
 // Notices of one journal, written into outputs of every size, by receipts that fit the journal and by some that do not.
 #[cfg(test)]
 mod tests {

@@ -1,3 +1,5 @@
+#![tactic(auto)]
+
 // Opening at every limit: days, amounts, preschedule days, places and journal lines, over memory that held other things.
 #[cfg(test)]
 mod tests {

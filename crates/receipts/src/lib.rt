@@ -1,4 +1,6 @@
 // Receipts for journal lines: each is owed until it is laid aside or its notices are written.
+#![tactic(auto)]
+
 mod decimal;
 mod notice;
 pub mod receipt;

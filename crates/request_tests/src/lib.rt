@@ -1,3 +1,5 @@
+#![tactic(auto)]
+
 // Every field of a request at 0, at 1, at its limits, one past them and at the largest 32-bit number.
 #[cfg(test)]
 mod tests {

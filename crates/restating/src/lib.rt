@@ -1,4 +1,6 @@
 // A record that is changed in its place, and what it holds by day.
+#![tactic(auto)]
+
 ghost use Rattle.std.specs.Prelude.{◌≡◌, ◌<◌, true, length, slice_index_or, slice_set};
 ghost use Rattle.desk.specs.Desks.{view};
 ghost use Rattle.law.specs.Keeps.{Termed};

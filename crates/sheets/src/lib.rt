@@ -1,4 +1,6 @@
 // The rule sheet: the questions that a book asks of a tariff, and what the answers owe.
+#![tactic(auto)]
+
 pub mod minutes;
 
 ghost use Rattle.std.specs.Prelude.{◌≡◌};

@@ -1,5 +1,7 @@
 // The ordered shelf: entries of one kind, kept in order over lent slots. They come off it in order, none lost and none
 // twice.
+#![tactic(auto)]
+
 pub mod defender;
 pub mod due;
 pub mod order;

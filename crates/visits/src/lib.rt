@@ -1,5 +1,7 @@
 // Preemption in closed form, and by visits that stop when no day is short. The functions carry the statements and do
 // nothing when run.
+#![tactic(auto)]
+
 ghost use Rattle.visits.specs.ClosedForm.{ClosedForm};
 ghost use Rattle.visits.specs.Visiting.{StoppingChangesNothing};
 

@@ -1,4 +1,4 @@
-use Rattle.std.proofs.Common.{◌≡◌, ℕ, ◌+◌, sym, refl, ap, ◌∙◌, arith}
+use Rattle.std.proofs.Common.{◌≡◌, ◌+◌, sym, ap, ◌∙◌, arith}
 use Rattle.journal.specs.Accounts.{balance}
 use Rattle.law.specs.Posting.{busy_days}
 use Rattle.desk.specs.Desks.{view}

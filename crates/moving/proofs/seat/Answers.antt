@@ -1,4 +1,4 @@
-use Rattle.std.proofs.Common.{◌≡◌, ◌≤◌, set, sym, refl, ap, ◌∙◌, subst, arith}
+use Rattle.std.proofs.Common.{◌≤◌, sym, ap, subst}
 use Rattle.std.proofs.lemmas.List.{map-set}
 use Rattle.law.specs.View.{count}
 use Rattle.desk.specs.Desks.{view}

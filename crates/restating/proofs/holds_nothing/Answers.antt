@@ -1,4 +1,4 @@
-use Rattle.std.proofs.Common.{◌≡◌, ℕ, eqb, sym, ap, ◌∙◌}
+use Rattle.std.proofs.Common.{ℕ, eqb, sym, ap, ◌∙◌}
 use Rattle.law.specs.View.{Entry}
 use Rattle.law.specs.Preemption.{empty}
 use Rattle.desk.specs.Desks.{view}

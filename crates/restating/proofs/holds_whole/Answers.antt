@@ -1,9 +1,5 @@
-use Rattle.std.proofs.Common.{◌≡◌, ℕ, ◌+◌, ◌<◌, ◌≤◌, Bool, leb, get_or, sym, ap, ◌∙◌, arith}
-use Rattle.std.proofs.lemmas.Bool.{le-leb, lt-leb}
-use Rattle.law.specs.View.{Entry, aref_of, start_of, length_of, nobody}
-use Rattle.law.specs.Posting.{holding}
-use Rattle.law.specs.Preemption.{wanted}
-use Rattle.desk.specs.Desks.{view}
+use Rattle.std.proofs.Common.{sym, ap, ◌∙◌, arith}
+use Rattle.law.specs.View.{length_of}
 use Rattle.restating.proofs.DayTests.{each_start, each_fails, each_passes, each_end}
 use Rattle.restating.proofs.SameRecord.{there_is, short_term, in_term, enough, too_little}
 use Rattle.restating.proofs.holds_whole.Goals as goal

@@ -1,5 +1,5 @@
 -- The line is written where the journal ends; each of its two puts moves what the accounts move.
-use Rattle.std.proofs.Common.{◌≡◌, ◌+◌, ◌-◌, ◌≤◌, length, set, sym, refl, ap, ◌∙◌, subst, arith}
+use Rattle.std.proofs.Common.{◌≡◌, ◌+◌, ◌≤◌, length, set, sym, refl, ap, ◌∙◌, subst, arith}
 use Rattle.std.proofs.lemmas.List.{length-set}
 use Rattle.journal.specs.Accounts.{balance}
 use Rattle.law.specs.Posting.{post}
