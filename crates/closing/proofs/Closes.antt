@@ -1,7 +1,7 @@
 -- A challenger closes in its place.
 use Rattle.std.proofs.Common.{◌≡◌, ℕ, ◌+◌, ◌<◌, ◌≤◌, Bool, true, false, cond, ◌⊎◌, List, [], ◌∷◌, length, get_or, set, Some, None, Option, sym, refl, ap, ◌∙◌, inl, inr, arith}
 use Rattle.std.proofs.lemmas.Bool.{cases_Bool, and_parts, true≢false}
-use Rattle.std.specs.List.{AllByRecursion as All}
+use Rattle.std.specs.List.{AllByRecursion}
 use Rattle.std.proofs.ByRecursion.{All-get_or}
 use Rattle.std.proofs.lemmas.List.{length-map}
 use Rattle.terms.specs.declared.words.State.{State}
@@ -55,7 +55,7 @@ module _ (R : Rules) (t : ℕ) (ls : List Line) where
   closes es b j C o = rw C.none_open (change_at b j (close R t ls) es o C.within C.stands ∙ ap (set es j) (close_is (get_or es j nobody)))
 
 -- the challenger of a desk midway
-module _ (d : Desk) (M : Midway d) (T : All (Termed (view d).days) (view d).places) (b j : ℕ) (C : ToClose (view d).places b j) where
+module _ (d : Desk) (M : Midway d) (T : AllByRecursion (Termed (view d).days) (view d).places) (b j : ℕ) (C : ToClose (view d).places b j) where
   pub in_places : j < length d.places.now
   in_places = omega (arith, C.within, length-map d.places.now entry_of)
 

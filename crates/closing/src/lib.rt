@@ -9,7 +9,7 @@ ghost use Rattle.law.specs.Keeps.{Termed};
 ghost use Rattle.law.specs.View.{living, nobody};
 ghost use Rattle.moving.specs.Midway.{Midway, with_places};
 ghost use Rattle.sheets.specs.Laws.{Possible};
-ghost use Rattle.std.specs.List.{AllByRecursion as All};
+ghost use Rattle.std.specs.List.{AllByRecursion};
 
 use desk::memory::Desk;
 use looking::{any_match_open, place_of};
@@ -63,7 +63,7 @@ fn closed_state(desk: &Desk, j: usize) -> State
 // Closes the challenger if no match is open any more.
 pub fn close_if_last<S: RuleSheet>(desk: &mut Desk, sheet: &S, minute: u32, against: u32)
     requires midway { Midway desk.old }
-    requires terms { All (Termed (view desk.old).days) (view desk.old).places }
+    requires terms { AllByRecursion (Termed (view desk.old).days) (view desk.old).places }
     requires early { minute ≤ 1000000 }
     ensures midway { Midway desk.new }
     ensures view { view desk.new ≡ with_places (view desk.old) (close_if_last (S.rules sheet.now) minute (view desk.old).lines against (view desk.old).places) }

@@ -1,7 +1,7 @@
 -- The record in a place loses what was set aside of it: the move may be made, how many lines that writes, and what is
 -- written then.
 use Rattle.std.proofs.Common.{◌≡◌, ℕ, ◌+◌, ◌-◌, ◌*◌, ◌<◌, ◌≤◌, true, List, length, get_or, set, sym, refl, ap, ◌∙◌, subst, arith}
-use Rattle.std.specs.List.{AllByRecursion as All}
+use Rattle.std.specs.List.{AllByRecursion}
 use Rattle.std.proofs.ByRecursion.{All-get_or, All-set}
 use Rattle.std.proofs.lemmas.List.{length-map, length-take-le, get_or-map}
 use Rattle.std.proofs.lemmas.Bool.{and_parts, and_from, eq-eqb, eqb-true}
@@ -117,7 +117,7 @@ module _ (d : Desk) (S : Sound d) (i : ℕ) (h : i < length d.places.now) (l : l
       change_at (aref_of e) i (λ x. due_at (over_at x) (in_state s x)) v.places (M.once (aref_of e)) within (and_from _ _ l (eq-eqb _ _ refl))
       ∙ ap (λ (x : Entry). set v.places i (due_at (over_at x) (in_state s e))) there
 
-  pub terms_after : (s : State) → All (Termed (view d).days) (set (view d).places i (due_at (1440 * ((place d.places.now i).standing.request.start + (place d.places.now i).standing.request.length)) (in_state s (get_or (view d).places i nobody))))
+  pub terms_after : (s : State) → AllByRecursion (Termed (view d).days) (set (view d).places i (due_at (1440 * ((place d.places.now i).standing.request.start + (place d.places.now i).standing.request.length)) (in_state s (get_or (view d).places i nobody))))
   terms_after s = All-set (Termed v.days) v.places i (next s) (term.0, term.1, λ q. term.2 l) S.kept.terms
 
   module _ (R : Rules) where

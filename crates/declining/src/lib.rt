@@ -79,6 +79,7 @@ pub fn decline_at<S: RuleSheet>(
     i: usize,
 ) -> Result<Done, Refusal>
     requires sound { Sound desk.old }
+    requires few_lines { length desk.old.lines.now ≤ 65536 }
     requires within { i < length desk.old.places.now }
     requires lives { living (slice_index_or (view desk.old).places i nobody) ≡ true }
     requires early { minute ≤ 1000000 }

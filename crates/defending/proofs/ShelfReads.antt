@@ -1,6 +1,6 @@
 -- What is read off a shelf, entry by entry.
 use Rattle.std.proofs.Common.{◌≡◌, ℕ, zero, suc, ◌+◌, ◌-◌, ◌<◌, List, [], ◌∷◌, length, get_or, take, Some, None, sum_by, ap, arith}
-use Rattle.std.specs.List.{AllByRecursion as All, slice_get}
+use Rattle.std.specs.List.{AllByRecursion, slice_get}
 use Rattle.std.proofs.ByRecursion.{All-get_or}
 use Rattle.std.proofs.lemmas.Option.{slice_get-get_or}
 use Rattle.std.proofs.lemmas.List.Sums.{sum_by_more}
@@ -15,7 +15,7 @@ module _ {X : Type 0} (xs : List X) (j : ℕ) (here : j < length xs) (x : X) (re
   pub entry_is : (d : X) → x ≡ get_or xs j d
   entry_is d = let n = slice_get-get_or xs j d here in cc
 
-  pub entry_holds : (P : X → Type 0) → All P xs → P x
+  pub entry_holds : (P : X → Type 0) → AllByRecursion P xs → P x
   entry_holds P h = rw (entry_is x) (All-get_or P xs j x here h)
 
   -- what is left once one entry more is taken from it

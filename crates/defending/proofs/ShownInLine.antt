@@ -1,6 +1,6 @@
 -- What memory shows of the records lined up on a shelf: what each holds by its account.
 use Rattle.std.proofs.Common.{◌≡◌, ℕ, ◌-◌, ◌<◌, true, List, [], ◌∷◌, map, length, get_or, sum_by, sym, refl, ap, ◌∙◌, subst, arith}
-use Rattle.std.specs.List.{AllByRecursion as All}
+use Rattle.std.specs.List.{AllByRecursion}
 use Rattle.std.proofs.ByRecursion.{All-get_or, All-weaker}
 use Rattle.std.proofs.lemmas.List.{get_or-map, length-map}
 use Rattle.std.proofs.lemmas.List.Sums.{sum_by-cons}
@@ -62,7 +62,7 @@ module _ (d : Desk) (S : Sound d) where
         let b = subst (λ e. InTerm e day) (ap (λ e. find (aref_of e) es) entry_is ∙ found lives) a in
         (b.1, b.2)
 
-  pub each_in_place : (xs : List Defender) → InPlaces (view d).places xs → All (λ x. x.place < length d.places.now) xs
+  pub each_in_place : (xs : List Defender) → InPlaces (view d).places xs → AllByRecursion (λ x. x.place < length d.places.now) xs
   each_in_place xs h = All-weaker _ _ (λ x p. omega (arith, p.0, length-map ps entry_of)) xs h
 
   -- all that the records lined up hold

@@ -1,6 +1,6 @@
 // Whether what is free and what the defenders lined up hold meets a request.
 ghost use Rattle.std.specs.Prelude.{◌≡◌, ◌+◌, ◌-◌, ◌<◌, ◌≤◌, length, sum_by, nat_le};
-ghost use Rattle.std.specs.List.{AllByRecursion as All};
+ghost use Rattle.std.specs.List.{AllByRecursion};
 ghost use Rattle.defending.specs.LinedUp.{lined, InPlaces, held_in_place};
 ghost use Rattle.desk.specs.Desks.{view};
 ghost use Rattle.desk.specs.Soundness.{Sound};
@@ -16,7 +16,7 @@ use terms::request::Request;
 
 // What is still short on a day once all that the records lined up hold on it is taken.
 pub fn left_short(places: &[Record], shelf: &Shelf<Defender>, day: u32, short: u32) -> u32
-    requires { All (λ x. x.place < length places.now) (contents shelf.now) }
+    requires { AllByRecursion (λ x. x.place < length places.now) (contents shelf.now) }
     ensures { result ≡ short - sum_by (held_in_place places.now day) (contents shelf.now) }
 {
     let mut left = short;

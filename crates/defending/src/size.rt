@@ -82,6 +82,7 @@ fn count_visit(one: &Record, request: &Request, short: &mut [u32], granted: &mut
 // which something is granted.
 pub fn preemption_size(desk: &Desk, shelf: &Shelf<Defender>, request: &Request) -> usize
     requires sound { Sound desk.now }
+    requires few_places { length desk.now.places.now ≤ 128 }
     requires there { InPlaces (view desk.now).places (contents shelf.now) }
     requires few { length (contents shelf.now) ≤ length desk.now.places.now }
     requires offered { request.now.start + request.now.length ≤ length desk.now.amounts.now }

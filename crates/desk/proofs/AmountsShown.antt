@@ -1,6 +1,6 @@
 -- The amounts that memory has of a day are those of the accounts.
 use Rattle.std.proofs.Common.{◌≡◌, ℕ, ◌+◌, ◌-◌, ◌<◌, ◌≤◌, true, false, cond, ◌&&◌, ltb, leb, ◌⊎◌, List, [], ◌∷◌, map, get_or, sum_by, sym, refl, ap, ◌∙◌, subst, inl, inr, arith}
-use Rattle.std.specs.List.{AllByRecursion as All}
+use Rattle.std.specs.List.{AllByRecursion}
 use Rattle.std.proofs.lemmas.List.Sums.{sum_by-cons}
 use Rattle.std.proofs.lemmas.Bool.{cases_Bool, cases_lt, and_parts, and_cases, leb-true, leb-false, ltb-true, ltb-false, cond-true, cond-false}
 use Rattle.journal.specs.Accounts.{held, aside, balance}
@@ -54,10 +54,10 @@ module _ (v : View) (K : Kept v) (day : ℕ) where
       go (inl l) p = in_31 r s.1 s.2 l (K.challenged (aref_of (entry_of r)) r.against day (subst (λ n. 0 < n) (cond-true _ _ _ l) p)).0
       go (inr l) p = let z : ⊥ = omega (arith, cond-false (living (entry_of r)) (balance v.lines (aside (aref_of (entry_of r)) r.against) day) 0 l) in absurd z
 
-  pub held_shown_in : (rs : List Record) → All Stands rs → sum_by (held_on day) rs ≡ held_in (map entry_of rs) v.lines day
+  pub held_shown_in : (rs : List Record) → AllByRecursion Stands rs → sum_by (held_on day) rs ≡ held_in (map entry_of rs) v.lines day
   held_shown_in [] s = refl
   held_shown_in (r ∷ rs) s = let one = held_shown r s.0 in let rest = held_shown_in rs s.1 in omega (arith, sum_by-cons (held_on day) r rs)
 
-  pub aside_shown_in : (rs : List Record) → All Stands rs → sum_by (aside_on day) rs ≡ aside_in (map entry_of rs) v.lines day
+  pub aside_shown_in : (rs : List Record) → AllByRecursion Stands rs → sum_by (aside_on day) rs ≡ aside_in (map entry_of rs) v.lines day
   aside_shown_in [] s = refl
   aside_shown_in (r ∷ rs) s = let one = aside_shown r s.0 in let rest = aside_shown_in rs s.1 in omega (arith, sum_by-cons (aside_on day) r rs)

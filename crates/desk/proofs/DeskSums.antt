@@ -1,6 +1,6 @@
 -- The sums of a sound desk's memory are those of the journal's accounts, and add up to what was posted.
 use Rattle.std.proofs.Common.{◌≡◌, ℕ, suc, ◌+◌, ◌≤◌, true, List, [], ◌∷◌, map, sum_by, ◌∙◌, arith}
-use Rattle.std.specs.List.{AllByRecursion as All}
+use Rattle.std.specs.List.{AllByRecursion}
 use Rattle.journal.specs.Accounts.{free, flown, balance, held_below, aside_below}
 use Rattle.law.specs.View.{aref_of, living, find, posted_on}
 use Rattle.law.specs.Keeps.{Termed}
@@ -14,7 +14,7 @@ use Rattle.desk.specs.Soundness.{Shows, Sound}
 use Rattle.desk.proofs.AmountsShown.{Stands, held_shown_in, aside_shown_in}
 
 -- what is known of each record and of each entry is known of each record
-all_three : {X Y : Type 0} (f : X → Y) (P : X → Type 0) (Q R : Y → Type 0) (xs : List X) → All P xs → All Q (map f xs) → All R (map f xs) → All (λ x. P x × Q (f x) × R (f x)) xs
+all_three : {X Y : Type 0} (f : X → Y) (P : X → Type 0) (Q R : Y → Type 0) (xs : List X) → AllByRecursion P xs → AllByRecursion Q (map f xs) → AllByRecursion R (map f xs) → AllByRecursion (λ x. P x × Q (f x) × R (f x)) xs
 all_three f P Q R [] p q r = tt
 all_three f P Q R (x ∷ xs) p q r = ((p.0, q.0, r.0), all_three f P Q R xs p.1 q.1 r.1)
 
@@ -22,7 +22,7 @@ module _ (d : Desk) (S : Sound d) (day : ℕ) where
   sums : FourSums (view d) day
   sums = four_sums (view d) (accounted_kept (view d) S.kept) day
 
-  stand : All (Stands (view d) S.kept day) d.places.now
+  stand : AllByRecursion (Stands (view d) S.kept day) d.places.now
   stand = all_three entry_of (Shows (balance (view d).lines)) (λ e. living e ≡ true → find (aref_of e) (view d).places ≡ e) (Termed (view d).days) d.places.now
       S.shown.records (all_found (view d).places S.kept.once) S.kept.terms
 

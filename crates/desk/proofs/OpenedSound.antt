@@ -1,7 +1,7 @@
 -- A desk newly opened is sound: its view is a book newly opened, and its memory shows the accounts.
 use Rattle.std.proofs.Common.{◌≡◌, ℕ, zero, suc, ◌≤◌, Bool, true, false, eqb, leb, List, [], ◌∷◌, ◌++◌, map, length, get_or, replicate, Some, None, Option, sym, refl, ap, ◌∙◌, subst, arith}
 use lib.LanesLaws.{map-replicate}
-use Rattle.std.specs.List.{AllByRecursion as All}
+use Rattle.std.specs.List.{AllByRecursion}
 use Rattle.std.proofs.lemmas.List.{take-append-le, take_all, get_or-replicate, length-append}
 use Rattle.std.proofs.lemmas.Bool.{and_parts, leb-true, eqb-true}
 use Rattle.terms.specs.declared.refusal.Refusal.{Refusal}
@@ -51,7 +51,7 @@ module _ (d : Desk) (days : Days) (places : ℕ) (rest : List Line) (fit : Fit d
     each_day = ap length N.free ∙ ap (λ x. length x.amounts) (sym N.days);
     shown = record {
       frees = λ day h. ap (λ xs. get_or xs day 0) N.free ∙ (sym (postings_free days.amounts day) ∙ ap (λ ls. balance ls free day) (sym lines_are));
-      records = subst (All (Shows (balance (view d).lines))) (sym N.places) (all_alike (Shows (balance (view d).lines)) places vacant (vacant_shows (balance (view d).lines)));
+      records = subst (AllByRecursion (Shows (balance (view d).lines))) (sym N.places) (all_alike (Shows (balance (view d).lines)) places vacant (vacant_shows (balance (view d).lines)));
     };
   }
 

@@ -3,7 +3,7 @@ use Rattle.std.proofs.Common.{◌≡◌, ℕ, suc, ◌+◌, ◌<◌, ◌≤◌, 
 use mathlib.Core.Logic.{∥∥₁_elim}
 use denote.Struct.Props.{props}
 use std.HLevel.{Π_prop}
-use Rattle.std.specs.List.{AllByRecursion as All}
+use Rattle.std.specs.List.{AllByRecursion}
 use Rattle.terms.specs.Days.{Days}
 use Rattle.terms.specs.Words.{is_challenged, is_competing}
 use Rattle.journal.specs.declared.line.Line.{Line}
@@ -16,7 +16,7 @@ use Rattle.desk.specs.Desks.{view}
 use Rattle.desk.specs.Records.{entry_of}
 use Rattle.desk.specs.Soundness.{Shows, Shown, Sound}
 
-all_prop : {X : Type 0} (P : X → Type 0) → ((x : X) → IsProp (P x)) → (xs : List X) → IsProp (All P xs)
+all_prop : {X : Type 0} (P : X → Type 0) → ((x : X) → IsProp (P x)) → (xs : List X) → IsProp (AllByRecursion P xs)
 all_prop P h [] p q = λ i. tt
 all_prop P h (x ∷ xs) p q = λ i. (h x p.0 q.0 i, all_prop P h xs p.1 q.1 i)
 

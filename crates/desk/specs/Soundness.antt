@@ -1,6 +1,6 @@
 -- What memory shows of the journal's accounts, and what every desk keeps.
 use Rattle.std.specs.Prelude.{◌≡◌, ℕ, ◌+◌, ◌<◌, ◌≤◌, cond, List, length, slice_index}
-use Rattle.std.specs.List.{AllByRecursion as All}
+use Rattle.std.specs.List.{AllByRecursion}
 use Rattle.journal.specs.Accounts.{Account, free, held, aside, balance}
 use Rattle.law.specs.View.{living, aref_of, start_of}
 use Rattle.law.specs.Keeps.{Kept}
@@ -20,7 +20,7 @@ pub record Shows (B : Account → ℕ → ℕ) (r : Record) : Type 0 where
 -- memory shows the accounts B: free amounts by day, and each record
 pub record Shown (B : Account → ℕ → ℕ) (amounts : List ℕ) (places : List Record) : Type 0 where
   pub frees : (day : ℕ) → day < length amounts → slice_index amounts day ≡ B free day
-  pub records : All (Shows B) places
+  pub records : AllByRecursion (Shows B) places
 
 -- what every desk keeps: its view keeps what every book keeps, and memory shows the accounts of the journal
 pub record Sound (d : Desk) : Type 0 where

@@ -61,6 +61,7 @@ pub fn enter<S: RuleSheet>(
     state: State,
 ) -> Result<Done, Refusal>
     requires sound { Sound desk.old }
+    requires few_lines { length desk.old.lines.now ≤ 65536 }
     requires may { Enterable (view desk.old) minute request.now place }
     requires lives { is_living state ≡ true }
     ensures shown { Showing desk.new }

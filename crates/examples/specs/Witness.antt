@@ -1,7 +1,7 @@
 -- One list of calls on one newly opened book in which records give way in each way there is and matches end in each way
 -- they can: what is proved of every run is proved of such runs too.
 use Rattle.std.specs.Prelude.{◌≡◌, ℕ, suc, Bool, true, false, List, [], ◌∷◌, ◌++◌, take}
-use Rattle.std.specs.List.{AllByRecursion as All}
+use Rattle.std.specs.List.{AllByRecursion}
 use Rattle.terms.specs.declared.request.Request.{Request}
 use Rattle.terms.specs.declared.words.Kind.{Kind}
 use Rattle.terms.specs.declared.words.Kind.TheVariants.{PointToPoint, Network}
@@ -68,7 +68,7 @@ NextWrites n c ls = (take (suc n) calls ≡ take n calls ++ c ∷ []) × ((after
 
 pub record Witness : Type 0 where
   -- only checked requests are submitted
-  pub checked : All IsChecked calls
+  pub checked : AllByRecursion IsChecked calls
   -- AREF 1 waits for its customer's confirmation
   pub grants : NextWrites 0 (submit 0 first) (line 0 Granted 0 1 1 60 ∷ [])
   -- AREF 2 supersedes AREF 1, which is pending and shorter

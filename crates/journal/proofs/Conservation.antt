@@ -1,6 +1,6 @@
 -- Double entry: lines that never take more than there is lose nothing.
 use Rattle.std.proofs.Common.{◌≡◌, ℕ, ◌+◌, ◌<◌, ◌≤◌, Bool, true, false, cond, ◌&&◌, eqb, List, [], ◌∷◌, length, sym, refl, ◌∙◌, arith}
-use Rattle.std.specs.List.{AllByRecursion as All}
+use Rattle.std.specs.List.{AllByRecursion}
 use Rattle.std.proofs.lemmas.List.{take_all}
 use Rattle.journal.specs.declared.line.Line.{Line}
 use Rattle.journal.specs.declared.line.LineKind.{LineKind}
@@ -97,7 +97,7 @@ line_even n k l p q =
     omega arith
 
 -- double entry: what came in is what went out, and what was posted
-even : (n k : ℕ) (ls : List Line) → All (λ l. (l.a < n) × (l.b < n)) ls → in_all n (λ x. into x k ls) ≡ in_all n (λ x. out_of x k ls) + out_of outside k ls
+even : (n k : ℕ) (ls : List Line) → AllByRecursion (λ l. (l.a < n) × (l.b < n)) ls → in_all n (λ x. into x k ls) ≡ in_all n (λ x. out_of x k ls) + out_of outside k ls
 unfolding into out_of
 even n k [] h = rw in_all_zero (omega arith)
 even n k (l ∷ ls) h =

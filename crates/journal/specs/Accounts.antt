@@ -1,6 +1,6 @@
 -- The journal as double entry: on its day each line takes its MW out of one account and brings them into another.
 use Rattle.std.specs.Prelude.{◌≡◌, ℕ, zero, suc, ◌+◌, ◌-◌, ◌<◌, ◌≤◌, Bool, cond, ◌&&◌, List, [], ◌∷◌, take, ◌==◌}
-use Rattle.std.specs.List.{AllByRecursion as All}
+use Rattle.std.specs.List.{AllByRecursion}
 use Rattle.journal.specs.declared.line.Line.{Line}
 use Rattle.journal.specs.declared.line.LineKind.{LineKind}
 use Rattle.journal.specs.declared.line.LineKind.TheVariants.{Posted, Granted, Superseded, Recalled, SetAside, Lost, Kept, Extended, Ceded, Released, Flown}
@@ -116,7 +116,7 @@ AddsUp n ls day = balance ls free day + held_below n ls day + aside_below n ls d
 
 -- the lines name only AREFs below n
 abbrev pub NamesBelow : ℕ → List Line → Type 0
-NamesBelow n ls = All (λ l. (l.a < n) × (l.b < n)) ls
+NamesBelow n ls = AllByRecursion (λ l. (l.a < n) × (l.b < n)) ls
 
 -- of lines after none of which an account is below zero, no MW is lost
 abbrev pub NoneLost : Type 0

@@ -1,6 +1,6 @@
 -- Preemption begins exactly when it is due.
 use Rattle.std.proofs.Common.{◌≡◌, ℕ, zero, suc, ◌+◌, ◌-◌, ◌<◌, ◌≤◌, min, Bool, true, false, cond, not, ◌&&◌, ◌||◌, eqb, ltb, leb, ◌⊎◌, List, [], ◌∷◌, ◌++◌, map, length, sym, refl, ap, ◌∙◌, subst, inl, inr, append_assoc, append-nil, arith}
-use Rattle.std.specs.List.{AllByRecursion as All}
+use Rattle.std.specs.List.{AllByRecursion}
 use Rattle.std.proofs.lemmas.List.{append_cancel_left}
 use Rattle.std.proofs.lemmas.Bool.{cases_Bool, cases_eq, cases_lt, eqb-true, or_left, or_right, or_cases, false≢true, cond-true, cond-false, not-false, not_from_true, and_from, ne_eqb, eq-eqb, leb-true, leb-false, le-leb, lt-ltb, le-ltb, ltb-false, and_parts}
 use Rattle.terms.specs.declared.refusal.Refusal.{Refusal}
@@ -35,7 +35,7 @@ module _ (t : ℕ) (κ : LineKind) (a b : ℕ) (amount : ℕ → List Line → �
 
   -- either nothing was to be written on any day, or there is a first line, of this kind, and lines of this kind follow
   abbrev Wrote : ℕ → ℕ → List Line → List Line → Type 0
-  Wrote s n ls ms = ((ms ≡ ls) × ((k : ℕ) → s ≤ k → k < s + n → amount k ls ≡ 0)) ⊎ ((l : Line) × (new : List Line) × (ms ≡ ls ++ (l ∷ new)) × (l.kind ≡ κ) × All (λ x. x.kind ≡ κ) new)
+  Wrote s n ls ms = ((ms ≡ ls) × ((k : ℕ) → s ≤ k → k < s + n → amount k ls ≡ 0)) ⊎ ((l : Line) × (new : List Line) × (ms ≡ ls ++ (l ∷ new)) × (l.kind ≡ κ) × AllByRecursion (λ x. x.kind ≡ κ) new)
 
   pub wrote_by_day : (s n : ℕ) (ls : List Line) → Wrote s n ls (by_day daily s n ls)
   unfolding by_day post
@@ -96,7 +96,7 @@ then_gave ls ms ns p q =
     let w = grown_trans ls ms ns p (q.0, q.1) in (w.0, w.1, gives_way_later p.0 q.0 q.2)
 
 -- lines of a kind by which nobody gives way
-nobody_by : (κ : LineKind) → gives_way κ ≡ false → (xs : List Line) → All (λ x. x.kind ≡ κ) xs → somebody_gives_way xs ≡ false
+nobody_by : (κ : LineKind) → gives_way κ ≡ false → (xs : List Line) → AllByRecursion (λ x. x.kind ≡ κ) xs → somebody_gives_way xs ≡ false
 nobody_by κ e [] h = refl
 nobody_by κ e (x ∷ xs) h = rw (ap gives_way h.0 ∙ e) (nobody_by κ e xs h.1)
 
@@ -159,7 +159,7 @@ module _ (t : ℕ) (r : Request) where
 
   -- of all pending defenders, one gave way, or none met a shortage
   abbrev NoneMet : List Entry → List Line → Type 0
-  NoneMet ds ls = All (λ d. is_pending d.standing.state ≡ true → meets_shortage r d ls ≡ false) ds
+  NoneMet ds ls = AllByRecursion (λ d. is_pending d.standing.state ≡ true → meets_shortage r d ls ≡ false) ds
 
   supersede_all_grown : (ds : List Entry) (ls : List Line) → Grown ls (supersede_all t r ds ls)
   unfolding supersede_all
@@ -210,7 +210,7 @@ module _ (t : ℕ) (r : Request) where
         one false = give_grown d ls
 
     abbrev NoneDue : List Entry → List Line → Type 0
-    NoneDue ds ls = All (λ d. is_pending d.standing.state ≡ false → NothingDue d ls) ds
+    NoneDue ds ls = AllByRecursion (λ d. is_pending d.standing.state ≡ false → NothingDue d ls) ds
 
     all_gave_or_not : (ds : List Entry) (ls : List Line) → ((give_all R t r ds ls ≡ ls) × NoneDue ds ls) ⊎ GaveWaySince ls (give_all R t r ds ls)
     unfolding give_all
@@ -256,7 +256,7 @@ module _ (t : ℕ) (r : Request) where
   short_even ls ms E k = ap (λ n. cond (leb r.start k && ltb k (r.start + r.length)) (wanted r k - n) 0) (E.same_in_all k)
 
 -- nothing was taken yet for an AREF that the lines do not name
-taken_none : (b k n : ℕ) (ls : List Line) → n ≤ b → All (λ l. (l.a < n) × (l.b < n)) ls → taken b k ls ≡ 0
+taken_none : (b k n : ℕ) (ls : List Line) → n ≤ b → AllByRecursion (λ l. (l.a < n) × (l.b < n)) ls → taken b k ls ≡ 0
 unfolding taken
 taken_none b k n [] h names = refl
 taken_none b k n (l ∷ ls) h names =
@@ -315,7 +315,7 @@ module _ (R : Rules) (p : ℕ → ℕ) (v : View) (I : Right p v) (t : ℕ) (r :
           go (inl h) = absurd (bare h)
           go (inr h) = omega arith
 
-      all_none : (es : List Entry) → All (λ d. (find (aref_of d) v.places ≡ d) × (defends R t r v.days d ≡ true) × (r.aref ≡ aref_of d → ⊥)) es →
+      all_none : (es : List Entry) → AllByRecursion (λ d. (find (aref_of d) v.places ≡ d) × (defends R t r v.days d ≡ true) × (r.aref ≡ aref_of d → ⊥)) es →
           NoneMet t r es v.lines → NoneDue t r R es (by_day (grant t r) r.start r.length v.lines) → holdings v.lines es k ≡ 0
       all_none [] s m n = refl
       all_none (d ∷ es) s m n = let x = one d s.0 m.0 n.0 in let y = all_none es s.1 m.1 n.1 in omega arith

@@ -2,7 +2,7 @@
 use Rattle.std.proofs.Common.{◌≡◌, ℕ, Bool, true, false, cond, ◌≢◌, ◌⊎◌, List, [], ◌∷◌, ◌++◌, filter, sym, refl, ap, ◌∙◌, subst, inl, inr}
 use mathlib.Core.List.Memᴰ
 use mathlib.Core.List.{Memᴰ}
-use Rattle.std.specs.List.{AllByRecursion as All}
+use Rattle.std.specs.List.{AllByRecursion}
 use Rattle.std.proofs.ByRecursion.{All-weaker}
 use Rattle.std.proofs.lemmas.Bool.{cases_Bool, false≢true}
 use Rattle.sheets.specs.Rules.{Rules}
@@ -13,7 +13,7 @@ use Rattle.law.specs.View.{Entry, aref_of, is, living, find}
 use Rattle.law.specs.Preemption.{gives_before, in_turn}
 use Rattle.law.proofs.AllPlaces.{all_in_turn}
 
-pub all_mem : (P : Entry → Type 0) (es : List Entry) (x : Entry) → All P es → Memᴰ x es → P x
+pub all_mem : (P : Entry → Type 0) (es : List Entry) (x : Entry) → AllByRecursion P es → Memᴰ x es → P x
 all_mem P [] x h m = elim m [ ]
 all_mem P (e ∷ es) x h m = go (λ (n : Memᴰ x es). all_mem P es x h.1 n) (Memᴰ.cases_cons m)
   where
@@ -28,11 +28,11 @@ Sorted R ds = InOrder (gives_before R) ds
 -- no two of one AREF
 abbrev pub Different : List Entry → Type 0
 Different [] = Unit {0}
-Different (d ∷ ds) = All (λ e. aref_of d ≡ aref_of e → ⊥) ds × Different ds
+Different (d ∷ ds) = AllByRecursion (λ e. aref_of d ≡ aref_of e → ⊥) ds × Different ds
 
 -- records that can exist
 abbrev pub Lasting : List Entry → Type 0
-Lasting es = All (λ e. Possible e.standing.request) es
+Lasting es = AllByRecursion (λ e. Possible e.standing.request) es
 
 module _ (R : Rules) (L : Lawful R) where
   turn_total : Total aref_of (λ e. Possible e.standing.request) (gives_before R)
@@ -50,7 +50,7 @@ module _ (R : Rules) (L : Lawful R) where
       (all_in_turn (λ e. aref_of e ≢ aref_of d) R ds (All-weaker _ _ (λ e n q. n (sym q)) ds h.0))
       (sorted_in_turn ds h.1 l.1)
 
-pub sorted_split : (R : Rules) (pre : List Entry) (d : Entry) (rest : List Entry) → Sorted R (pre ++ d ∷ rest) → All (λ e. R.gives_before d.standing e.standing ≡ true) rest
+pub sorted_split : (R : Rules) (pre : List Entry) (d : Entry) (rest : List Entry) → Sorted R (pre ++ d ∷ rest) → AllByRecursion (λ e. R.gives_before d.standing e.standing ≡ true) rest
 sorted_split R [] d rest s = s.0
 sorted_split R (x ∷ pre) d rest s = sorted_split R pre d rest s.1
 

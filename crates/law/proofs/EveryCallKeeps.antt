@@ -1,6 +1,6 @@
 -- Every call keeps the book whole.
 use Rattle.std.proofs.Common.{◌≡◌, ℕ, ◌-◌, ◌<◌, ◌≤◌, Bool, true, false, cond, not, ◌||◌, ltb, ◌⊎◌, List, [], ◌∷◌, map, length, filter, refl, ap, inl, inr, arith}
-use Rattle.std.specs.List.{AllByRecursion as All}
+use Rattle.std.specs.List.{AllByRecursion}
 use Rattle.std.proofs.ByRecursion.{All-weaker}
 use Rattle.std.proofs.lemmas.Bool.{and_parts, and_from, or_left, or_right, or_cases, false≢true, not-false, leb-false}
 use Rattle.law.specs.Calls
@@ -91,15 +91,15 @@ some_map g T (e ∷ es) h = go (λ (q : some (λ e. is_gone e.standing.state) es
     go ih (inl q) = or_left _ _ (not-false (is_gone (g e).standing.state) (T.stays_gone e (ap not q)))
     go ih (inr q) = or_right _ _ (ih q)
 
-kept_pass : (p : Entry → Bool) (es : List Entry) → All (λ e. p e ≡ true) (filter p es)
+kept_pass : (p : Entry → Bool) (es : List Entry) → AllByRecursion (λ e. p e ≡ true) (filter p es)
 kept_pass p [] = tt
 kept_pass p (e ∷ es) = go (p e) refl (kept_pass p es)
   where
-    go : (c : Bool) → p e ≡ c → All (λ x. p x ≡ true) (filter p es) → All (λ x. p x ≡ true) (cond c (e ∷ filter p es) (filter p es))
+    go : (c : Bool) → p e ≡ c → AllByRecursion (λ x. p x ≡ true) (filter p es) → AllByRecursion (λ x. p x ≡ true) (cond c (e ∷ filter p es) (filter p es))
     go true q h = (q, h)
     go false q h = h
 
-all_both : (P Q : Entry → Type 0) (es : List Entry) → All P es → All Q es → All (λ e. P e × Q e) es
+all_both : (P Q : Entry → Type 0) (es : List Entry) → AllByRecursion P es → AllByRecursion Q es → AllByRecursion (λ e. P e × Q e) es
 all_both P Q [] p q = tt
 all_both P Q (e ∷ es) p q = ((p.0, q.0), all_both P Q es p.1 q.1)
 
@@ -117,9 +117,9 @@ defends_lives R t r v e h = lives_pc e.standing.state (and_parts (is_pending e.s
 abbrev Low : ℕ → Entry → Type 0
 Low n e = (aref_of e ≤ n) × (e.against ≤ n)
 
-module _ (R : Rules) (v : View) (W : Whole v.lines v.places) (low : All (Low v.top) v.places) where
+module _ (R : Rules) (v : View) (W : Whole v.lines v.places) (low : AllByRecursion (Low v.top) v.places) where
   -- the defenders stand in the places, each under its AREF, below the challenger's
-  pub defenders_stand : (t : ℕ) (r : Request) → v.top < r.aref → All (λ d. (find (aref_of d) v.places ≡ d) × (Preemption.defends R t r v.days d ≡ true) × (r.aref ≡ aref_of d → ⊥)) (Preemption.defenders R t r v)
+  pub defenders_stand : (t : ℕ) (r : Request) → v.top < r.aref → AllByRecursion (λ d. (find (aref_of d) v.places ≡ d) × (Preemption.defends R t r v.days d ≡ true) × (r.aref ≡ aref_of d → ⊥)) (Preemption.defenders R t r v)
   defenders_stand t r up = all_in_turn _ R _
       (All-weaker (λ e. ((living e ≡ true → find (aref_of e) v.places ≡ e) × Low v.top e) × (Preemption.defends R t r v.days e ≡ true)) _
       (λ e h. (h.0.0 (defends_lives R t r v e h.1), h.1, (λ (q : r.aref ≡ aref_of e). omega arith))) _

@@ -1,6 +1,6 @@
 -- Who stands in the places after a change.
 use Rattle.std.proofs.Common.{◌≡◌, ℕ, zero, suc, ◌+◌, ◌<◌, ◌≤◌, Bool, true, false, cond, eqb, ◌⊎◌, List, [], ◌∷◌, map, replicate, refl, ap, ◌∙◌, inl, inr, arith}
-use Rattle.std.specs.List.{AllByRecursion as All}
+use Rattle.std.specs.List.{AllByRecursion}
 use Rattle.std.proofs.ByRecursion.{All-weaker}
 use Rattle.std.proofs.lemmas.Bool.{eq-eqb, ne_eqb, eqb-true, cases_Bool, and_parts, and_left, and_right, and_from, false≢true, not-true, and_cases, cond-true, cond-false}
 use Rattle.terms.specs.Words.{is_gone}
@@ -58,7 +58,7 @@ count_map g T a (e ∷ es) = go (count_map g T a es) (cases_Bool (is a e))
     go ih (inr q) = rw (q, is_not g T a e q) (omega arith)
 
 -- nobody living of an AREF above all
-pub count_none : (n a : ℕ) (es : List Entry) → n < a → All (λ e. (aref_of e ≤ n) × (e.against ≤ n)) es → count a es ≡ 0
+pub count_none : (n a : ℕ) (es : List Entry) → n < a → AllByRecursion (λ e. (aref_of e ≤ n) × (e.against ≤ n)) es → count a es ≡ 0
 unfolding count
 count_none n a [] h l = refl
 count_none n a (e ∷ es) h l =
@@ -115,7 +115,7 @@ count-nobody a zero = refl
 count-nobody a (suc n) = omega (arith, count-nobody a n)
 
 -- each living record is the one found under its AREF
-pub all_found : (es : List Entry) → ((a : ℕ) → count a es ≤ 1) → All (λ e. living e ≡ true → find (aref_of e) es ≡ e) es
+pub all_found : (es : List Entry) → ((a : ℕ) → count a es ≤ 1) → AllByRecursion (λ e. living e ≡ true → find (aref_of e) es ≡ e) es
 unfolding find count
 all_found [] o = tt
 all_found (x ∷ xs) o = (

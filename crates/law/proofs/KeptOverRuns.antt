@@ -1,6 +1,6 @@
 -- What every call keeps of a book, all together, and so every list of calls.
 use Rattle.std.proofs.Common.{◌≡◌, ℕ, ◌≤◌, List, [], ◌∷◌, length, sym, refl, ap, ◌∙◌, subst, arith}
-use Rattle.std.specs.List.{AllByRecursion as All}
+use Rattle.std.specs.List.{AllByRecursion}
 use Rattle.std.proofs.lemmas.Bool.{false≢true}
 use Rattle.terms.specs.Days.{Days}
 use Rattle.sheets.specs.Rules.{Rules}
@@ -49,13 +49,13 @@ right_opened days places room = record {
 pub right_at : (R : Rules) (days : Days) (places room : ℕ) (cs : List Call) → Right (posted_on days) (run R cs (opened days places room))
 right_at R days places room cs = right_run R (posted_on days) cs (opened days places room) (right_opened days places room)
 
-pub terms_run : (R : Rules) (cs : List Call) (v : View) → All IsChecked cs → All (Termed v.days) v.places → All (Termed (run R cs v).days) (run R cs v).places
+pub terms_run : (R : Rules) (cs : List Call) (v : View) → AllByRecursion IsChecked cs → AllByRecursion (Termed v.days) v.places → AllByRecursion (Termed (run R cs v).days) (run R cs v).places
 unfolding run
 terms_run R [] v h t = t
-terms_run R (c ∷ cs) v h t = terms_run R cs (step R c v).1 h.1 (subst (λ days. All (Termed days) (step R c v).1.places) (sym (days_stay R c v)) (terms_step R v t c h.0))
+terms_run R (c ∷ cs) v h t = terms_run R cs (step R c v).1 h.1 (subst (λ days. AllByRecursion (Termed days) (step R c v).1.places) (sym (days_stay R c v)) (terms_step R v t c h.0))
 
-pub terms_at : (R : Rules) (days : Days) (places room : ℕ) (cs : List Call) → All IsChecked cs →
-    All (Termed (run R cs (opened days places room)).days) (run R cs (opened days places room)).places
+pub terms_at : (R : Rules) (days : Days) (places room : ℕ) (cs : List Call) → AllByRecursion IsChecked cs →
+    AllByRecursion (Termed (run R cs (opened days places room)).days) (run R cs (opened days places room)).places
 terms_at R days places room cs h = terms_run R cs (opened days places room) h (all_alike (Termed days) places nobody (omega arith, omega arith, λ l. absurd (false≢true l)))
 
 -- no list of calls changes the posted days
@@ -97,6 +97,6 @@ every_call_keeps R v c K h =
       challenged = λ a b day p. (I.whole.supp.asides a b day p).0;
       competing = λ a b day p. (I.whole.supp.asides a b day p).1;
       once = I.whole.once;
-      terms = subst (λ days. All (Termed days) w.places) e (terms_step R v K.terms c h);
+      terms = subst (λ days. AllByRecursion (Termed days) w.places) e (terms_step R v K.terms c h);
       accepted = I.sound.low;
     }

@@ -1,6 +1,6 @@
 -- The later calls keep the book whole.
 use Rattle.std.proofs.Common.{◌≡◌, ℕ, ◌+◌, ◌-◌, ◌<◌, ◌≤◌, max, Bool, true, false, cond, not, eqb, ◌⊎◌, List, [], ◌∷◌, sym, refl, ap, ◌∙◌, subst, inl, inr, arith}
-use Rattle.std.specs.List.{AllByRecursion as All}
+use Rattle.std.specs.List.{AllByRecursion}
 use Rattle.std.proofs.lemmas.Bool.{eqb-true, cases_lt, and_parts, or_parts, false≢true}
 use Rattle.law.specs.Calls
 use Rattle.law.specs.Places
@@ -32,7 +32,7 @@ Found es e = (living e ≡ true) × (find (aref_of e) es ≡ e)
 pub found_by : (a : ℕ) (es : List Entry) → living (find a es) ≡ true → Found es (find a es)
 found_by a es l = (l, ap (λ x. find x es) (find_aref a es l))
 
-pub none_false : (p : Entry → Bool) (es : List Entry) → some p es ≡ false → All (λ e. p e ≡ false) es
+pub none_false : (p : Entry → Bool) (es : List Entry) → some p es ≡ false → AllByRecursion (λ e. p e ≡ false) es
 unfolding some
 none_false p [] h = tt
 none_false p (e ∷ es) h = let w = or_parts (p e) (some p es) h in (w.0, none_false p es w.1)

@@ -1,6 +1,6 @@
 -- What became of a match, call by call.
 use Rattle.std.proofs.Common.{◌≡◌, ℕ, suc, ◌+◌, ◌-◌, ◌*◌, ◌<◌, ◌≤◌, max, Bool, true, false, cond, not, ◌&&◌, eqb, ltb, ◌⊎◌, List, [], ◌∷◌, sym, refl, ap, ◌∙◌, subst, inl, inr, arith}
-use Rattle.std.specs.List.{AllByRecursion as All}
+use Rattle.std.specs.List.{AllByRecursion}
 use Rattle.std.proofs.ByRecursion.{All-weaker}
 use Rattle.std.proofs.lemmas.Bool.{eqb-true, cases_eq, and_parts, false≢true, leb-false, cond-true, cond-false, not-false, and_cases, ltb-false}
 use Rattle.law.specs.Calls
@@ -81,7 +81,7 @@ module _ (R : Rules) (L : Lawful R) (r : Request) (last : ℕ) (s : ℕ → ℕ)
   still_same : (es fs : List Entry) → find a fs ≡ find a es → find r.aref fs ≡ find r.aref es → Still es → Still fs
   still_same es fs p q h = subst (λ x. FacingOff R r last x (find r.aref fs)) (sym p) (subst (λ y. FacingOff R r last (find a es) y) (sym q) h)
 
-  module _ (p : ℕ → ℕ) (v : View) (I : Right p v) (terms : All (Termed v.days) v.places) (O : Open v.lines v.places) where
+  module _ (p : ℕ → ℕ) (v : View) (I : Right p v) (terms : AllByRecursion (Termed v.days) v.places) (O : Open v.lines v.places) where
     abbrev es : List Entry
     es = v.places
 
@@ -291,12 +291,12 @@ module _ (R : Rules) (L : Lawful R) where
       let g = top_grows R v I.whole I.sound.low c in
       closed_run p a b K N cs (step R c v).1 (right_step R p v I c) (omega arith) (λ k. ((A.1 k).0 ∙ (z k).0, (A.1 k).1 ∙ (z k).1, (A.1 k).2 ∙ (z k).2))
 
-  pub fate : (p : ℕ → ℕ) (r : Request) (last : ℕ) (s : ℕ → ℕ) (a : ℕ) (possible : Possible r) (cs : List Call) (v : View) → Right p v → All (Termed v.days) v.places → All IsChecked cs → Open R L r last s a possible v.lines v.places →
+  pub fate : (p : ℕ → ℕ) (r : Request) (last : ℕ) (s : ℕ → ℕ) (a : ℕ) (possible : Possible r) (cs : List Call) (v : View) → Right p v → AllByRecursion (Termed v.days) v.places → AllByRecursion IsChecked cs → Open R L r last s a possible v.lines v.places →
       WhollyAside s a r.aref (run R cs v).lines ⊎ (CameBack R r last s a v cs ⊎ WentOver R r s a v cs)
   unfolding run
   fate p r last s a possible [] v I T C O = inl O.1
   fate p r last s a possible (c ∷ cs) v I T C O =
-      go (λ (O' : Open R L r last s a possible (step R c v).1.lines (step R c v).1.places). fate p r last s a possible cs (step R c v).1 (right_step R p v I c) (subst (λ days. All (Termed days) (step R c v).1.places) (sym (days_stay R c v)) (terms_step R v T c C.0)) C.1 O') (next_step R L r last s a possible p v I T O c)
+      go (λ (O' : Open R L r last s a possible (step R c v).1.lines (step R c v).1.places). fate p r last s a possible cs (step R c v).1 (right_step R p v I c) (subst (λ days. AllByRecursion (Termed days) (step R c v).1.places) (sym (days_stay R c v)) (terms_step R v T c C.0)) C.1 O') (next_step R L r last s a possible p v I T O c)
     where
       top : r.aref ≤ (step R c v).1.top
       top = let g = top_grows R v I.whole I.sound.low c in let h = known R L r last s a possible p v I T O in omega arith

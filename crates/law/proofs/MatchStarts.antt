@@ -1,6 +1,6 @@
 -- A match begins.
 use Rattle.std.proofs.Common.{◌≡◌, ℕ, suc, ◌<◌, Bool, true, false, cond, not, ◌⊎◌, List, map, sym, refl, ap, ◌∙◌, subst, inl, inr, arith}
-use Rattle.std.specs.List.{AllByRecursion as All}
+use Rattle.std.specs.List.{AllByRecursion}
 use Rattle.std.proofs.lemmas.Bool.{and_parts, false≢true, leb-false, not-false}
 use Rattle.law.specs.Calls
 use Rattle.law.specs.Places
@@ -32,7 +32,7 @@ use Rattle.law.proofs.LinesOfCalls.{pays_step}
 use Rattle.law.proofs.QuietMatches.{mute, noted_none}
 use Rattle.law.proofs.MatchFates.{FacingOff, Open, fate}
 
-module _ (R : Rules) (L : Lawful R) (p : ℕ → ℕ) (v : View) (I : Right p v) (terms : All (Termed v.days) v.places) (t : ℕ) (r : Request) (possible : Possible r) (a day : ℕ) where
+module _ (R : Rules) (L : Lawful R) (p : ℕ → ℕ) (v : View) (I : Right p v) (terms : AllByRecursion (Termed v.days) v.places) (t : ℕ) (r : Request) (possible : Possible r) (a day : ℕ) where
   abbrev Begins : List Line → List Entry → Type 0
   Begins ls es = (ls ≡ v.lines) ⊎ ((v.top < r.aref) × (0 < balance ls (aside a r.aref) day → FacingOff R r (R.answer_by r (find a v.places).standing t v.days) (find a es) (find r.aref es)))
 
@@ -130,7 +130,7 @@ one_fate R L days places room cs t r after a day checked sold checked-after h =
     let v = run R cs (opened days places room) in
     let T = terms_at R days places room cs checked in
     let possible = checked_possible r sold in
-    let T⁺ = subst (λ ds. All (Termed ds) (step R (submit t r) v).1.places) (sym (days_stay R (submit t r) v)) (terms_step R v T (submit t r) sold) in
+    let T⁺ = subst (λ ds. AllByRecursion (Termed ds) (step R (submit t r) v).1.places) (sym (days_stay R (submit t r) v)) (terms_step R v T (submit t r) sold) in
     fate R L (posted_on days) r _ _ a possible after (step R (submit t r) v).1 (right_step R (posted_on days) v I (submit t r)) T⁺ checked-after (starts R L (posted_on days) v I T t r possible a day h)
 
 pub only_one : OnlyOneFate

@@ -1,6 +1,6 @@
 -- A book newly opened keeps what every book keeps.
 use Rattle.std.proofs.Common.{◌≡◌, ℕ, zero, suc, ◌<◌, ◌≤◌, List, length, replicate, arith}
-use Rattle.std.specs.List.{AllByRecursion as All}
+use Rattle.std.specs.List.{AllByRecursion}
 use Rattle.std.proofs.lemmas.Bool.{false≢true}
 use Rattle.terms.specs.Days.{Days}
 use Rattle.journal.specs.Accounts.{Account, held, aside, sort, balance}
@@ -10,7 +10,7 @@ use Rattle.law.specs.Opened.{postings, opened}
 use Rattle.law.proofs.Finds.{count-nobody}
 use Rattle.law.proofs.Postings.{postings_only, posting_solvent, posting_names, postings_bring, postings_elsewhere}
 
-pub all_alike : {X : Type 0} (P : X → Type 0) (n : ℕ) (x : X) → P x → All P (replicate n x)
+pub all_alike : {X : Type 0} (P : X → Type 0) (n : ℕ) (x : X) → P x → AllByRecursion P (replicate n x)
 all_alike P zero x p = tt
 all_alike P (suc n) x p = (p, all_alike P n x p)
 

@@ -1,6 +1,6 @@
 -- The sums over a book's records are the sums over the journal's accounts.
 use Rattle.std.proofs.Common.{◌≡◌, ℕ, suc, ◌+◌, ◌*◌, ◌<◌, ◌≤◌, Bool, true, false, cond, ◌&&◌, eqb, ◌⊎◌, List, [], ◌∷◌, sym, refl, ap, ◌∙◌, inl, inr, arith}
-use Rattle.std.specs.List.{AllByRecursion as All}
+use Rattle.std.specs.List.{AllByRecursion}
 use Rattle.std.proofs.ByRecursion.{All-weaker}
 use Rattle.std.proofs.lemmas.Bool.{eq-eqb, ne_eqb, cases_eq, cases_lt, cases_Bool, cond-false}
 use Rattle.journal.specs.declared.line.Line.{Line}
@@ -32,7 +32,7 @@ one_record n e f h = go (living e)
     go true = sum_at_one n (aref_of e) f h
     go false = sum_below_zero n
 
-by_count : (n : ℕ) (es : List Entry) (f : ℕ → ℕ) → All (λ e. aref_of e < n) es → over_living es f ≡ sum_below n (λ a. count a es * f a)
+by_count : (n : ℕ) (es : List Entry) (f : ℕ → ℕ) → AllByRecursion (λ e. aref_of e < n) es → over_living es f ≡ sum_below n (λ a. count a es * f a)
 unfolding over_living count
 by_count n [] f h = sym (sum_below_alike n _ (λ a. 0) (λ a. omega arith) ∙ sum_below_zero n)
 by_count n (e ∷ es) f h =
@@ -47,7 +47,7 @@ by_count n (e ∷ es) f h =
     times a false = omega arith
 
 -- where each AREF lives at most once, and only living AREFs count, the sum over records is the sum over AREFs
-over_all : (n : ℕ) (es : List Entry) (f : ℕ → ℕ) → All (λ e. aref_of e < n) es → ((a : ℕ) → count a es ≤ 1) → ((a : ℕ) → 0 < f a → 0 < count a es) → over_living es f ≡ sum_below n f
+over_all : (n : ℕ) (es : List Entry) (f : ℕ → ℕ) → AllByRecursion (λ e. aref_of e < n) es → ((a : ℕ) → count a es ≤ 1) → ((a : ℕ) → 0 < f a → 0 < count a es) → over_living es f ≡ sum_below n f
 over_all n es f h o p = by_count n es f h ∙ sum_below_alike n _ f (λ a. go a (cases_lt 0 (f a)))
   where
     go : (a : ℕ) → (0 < f a) ⊎ (f a ≤ 0) → count a es * f a ≡ f a
@@ -68,7 +68,7 @@ pub record Accounted (v : View) : Type 0 where
   pub challenged : (a b day : ℕ) → 0 < balance v.lines (aside a b) day →
       InTerm (find a v.places) day × (is_challenged (find a v.places).standing.state ≡ true) × ((find a v.places).against ≡ b)
   pub once : (a : ℕ) → count a v.places ≤ 1
-  pub accepted : All (AcceptedBy v.top) v.places
+  pub accepted : AllByRecursion (AcceptedBy v.top) v.places
 
 pub accounted_kept : (v : View) → Kept v → Accounted v
 accounted_kept v K = record { solvent = K.solvent; named = K.named; posted = K.posted; holders = K.holders; challenged = K.challenged; once = K.once; accepted = K.accepted }
@@ -90,13 +90,13 @@ module _ (v : View) (K : Accounted v) (day : ℕ) where
       go (inl l) = ap (λ x. cond (living e) x 0) (sym (sum_below_only (suc v.top) e.against (λ b. balance v.lines (aside (aref_of e) b) day) (omega arith) (other l)))
       go (inr l) = cond-false _ _ _ l ∙ sym (cond-false _ _ _ l)
 
-  aside_over : (es : List Entry) → All (λ e. living e ≡ true → find (aref_of e) v.places ≡ e) es → All (AcceptedBy v.top) es →
+  aside_over : (es : List Entry) → AllByRecursion (λ e. living e ≡ true → find (aref_of e) v.places ≡ e) es → AllByRecursion (AcceptedBy v.top) es →
       aside_in es v.lines day ≡ over_living es (λ a. sum_below (suc v.top) (λ b. balance v.lines (aside a b) day))
   unfolding over_living
   aside_over [] F h = refl
   aside_over (e ∷ es) F h = let a = aside_one e F.0 h.0.1 in let b = aside_over es F.1 h.1 in omega arith
 
-  low : All (λ e. aref_of e < suc v.top) v.places
+  low : AllByRecursion (λ e. aref_of e < suc v.top) v.places
   low = All-weaker _ _ (λ e q. omega arith) v.places K.accepted
 
   held_same : held_in v.places v.lines day ≡ held_below (suc v.top) v.lines day

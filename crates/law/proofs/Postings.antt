@@ -1,6 +1,6 @@
 -- The accounts after nothing but postings.
 use Rattle.std.proofs.Common.{◌≡◌, ℕ, suc, ◌+◌, ◌-◌, ◌<◌, ◌≤◌, Bool, true, false, cond, ◌&&◌, eqb, ltb, leb, ◌⊎◌, List, [], ◌∷◌, get_or, take, refl, ap, ◌∙◌, inl, inr, arith}
-use Rattle.std.specs.List.{AllByRecursion as All}
+use Rattle.std.specs.List.{AllByRecursion}
 use Rattle.std.proofs.ByRecursion.{All-take}
 use Rattle.std.proofs.lemmas.Bool.{cases_lt, cases_order, eq-eqb, ne_eqb, lt-ltb, le-ltb, le-leb, lt-leb}
 use Rattle.journal.specs.declared.line.Line.{Line}
@@ -10,7 +10,7 @@ use Rattle.law.specs.Opened.{postings}
 
 -- lines that only post
 abbrev pub PostingOnly : List Line → Type 0
-PostingOnly ls = All (λ l. (l.kind ≡ Posted) × (l.a ≡ 0) × (l.b ≡ 0)) ls
+PostingOnly ls = AllByRecursion (λ l. (l.kind ≡ Posted) × (l.a ≡ 0) × (l.b ≡ 0)) ls
 
 pub postings_only : (day : ℕ) (amounts : List ℕ) → PostingOnly (postings day amounts)
 postings_only day [] = tt

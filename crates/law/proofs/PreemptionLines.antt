@@ -1,6 +1,6 @@
 -- Preemption line by line.
 use Rattle.std.proofs.Common.{◌≡◌, ℕ, ◌+◌, ◌<◌, ◌≤◌, min, Bool, true, false, cond, ◌||◌, eqb, ◌⊎◌, List, [], ◌∷◌, ◌++◌, sym, refl, ap, ◌∙◌, subst, inl, inr, arith}
-use Rattle.std.specs.List.{AllByRecursion as All}
+use Rattle.std.specs.List.{AllByRecursion}
 use Rattle.std.proofs.ByRecursion.{All-push}
 use Rattle.std.proofs.lemmas.List.{append_assoc, append-nil}
 use Rattle.std.proofs.lemmas.Bool.{eq-eqb, ne_eqb, eqb-false, cases_eq, or_parts, not-true, false≢true}
@@ -35,7 +35,7 @@ pub record Took (r : Request) (ds : List Entry) (ms : List Line) (l : Line) : Ty
   pub from_giver : l.a ≡ aref_of giver
   pub for_r : l.b ≡ r.aref
   pub is_short : 0 < short r l.day ms
-  pub done : All (λ e. GivenUp r e ms) pre
+  pub done : AllByRecursion (λ e. GivenUp r e ms) pre
 
 pub record Ousted (r : Request) (base : List Line) (ds : List Entry) (ms : List Line) (l : Line) : Type 0 where
   pub pre : List Entry
@@ -50,12 +50,12 @@ pub record Ousted (r : Request) (base : List Line) (ds : List Entry) (ms : List 
   pub since : List Line
   pub now : ms ≡ before ++ since
   pub start : (us : List Line) × (before ≡ base ++ us)
-  pub own : All (λ x. (x.kind ≡ Superseded) × (x.a ≡ aref_of giver)) since
+  pub own : AllByRecursion (λ x. (x.kind ≡ Superseded) × (x.a ≡ aref_of giver)) since
   pub day' : ℕ
   pub held_some : 0 < holding before (aref_of giver) day'
   pub was_short : 0 < short r day' before
   pub left : Later r before ms
-  pub done : All (λ e. is_pending e.standing.state ≡ true → GivenUp r e before) pre
+  pub done : AllByRecursion (λ e. is_pending e.standing.state ≡ true → GivenUp r e before) pre
 
 abbrev pub Told : Request → List Line → List Entry → List Line → Line → LineKind → Type 0
 Told r base ds ms l Posted = ⊥
@@ -91,24 +91,24 @@ module _ (R : Rules) (t : ℕ) (r : Request) (base : List Line) (whole : List En
   later_grant s d ls f = days_ind (grant t r) (Later r ls) s d (λ k ms lo hi p. later_trans r ls ms _ p (later_granted r t 0 k _ ms p.solvent (omega arith))) ls (later_refl r ls f)
 
   -- one giver
-  took_line : (c : Bool) (d : Entry) (pre rest : List Entry) (k m : ℕ) (ms : List Line) → whole ≡ pre ++ d ∷ rest → 0 < short r k ms → All (λ e. GivenUp r e ms) pre →
+  took_line : (c : Bool) (d : Entry) (pre rest : List Entry) (k m : ℕ) (ms : List Line) → whole ≡ pre ++ d ∷ rest → 0 < short r k ms → AllByRecursion (λ e. GivenUp r e ms) pre →
       Told r base whole ms (record { minute = t; kind = cond c SetAside Recalled; a = aref_of d; b = r.aref; day = k; mw = m }) (cond c SetAside Recalled)
   took_line true d pre rest k m ms e s g = record { pre = pre; rest = rest; giver = d; split = e; from_giver = refl; for_r = refl; is_short = s; done = g }
   took_line false d pre rest k m ms e s g = record { pre = pre; rest = rest; giver = d; split = e; from_giver = refl; for_r = refl; is_short = s; done = g }
 
-  ups_later : (es : List Entry) (ms ns : List Line) → All (Other r) es → Later r ms ns → All (λ e. GivenUp r e ms) es → All (λ e. GivenUp r e ns) es
+  ups_later : (es : List Entry) (ms ns : List Line) → AllByRecursion (Other r) es → Later r ms ns → AllByRecursion (λ e. GivenUp r e ms) es → AllByRecursion (λ e. GivenUp r e ns) es
   ups_later [] ms ns o p h = tt
   ups_later (e ∷ es) ms ns o p h = (given_up_later r e ms ns o.0 p h.0, ups_later es ms ns o.1 p h.1)
 
-  terms_later : (es : List Entry) (ms ns : List Line) → All (Other r) es → Later r ms ns → All (λ e. InTerm r e ms) es → All (λ e. InTerm r e ns) es
+  terms_later : (es : List Entry) (ms ns : List Line) → AllByRecursion (Other r) es → Later r ms ns → AllByRecursion (λ e. InTerm r e ms) es → AllByRecursion (λ e. InTerm r e ns) es
   terms_later [] ms ns o p h = tt
   terms_later (e ∷ es) ms ns o p h = (in_term_later r e ms ns o.0 p h.0, terms_later es ms ns o.1 p h.1)
 
-  pends_later : (es : List Entry) (ms ns : List Line) → All (Other r) es → Later r ms ns → All (λ e. is_pending e.standing.state ≡ true → GivenUp r e ms) es → All (λ e. is_pending e.standing.state ≡ true → GivenUp r e ns) es
+  pends_later : (es : List Entry) (ms ns : List Line) → AllByRecursion (Other r) es → Later r ms ns → AllByRecursion (λ e. is_pending e.standing.state ≡ true → GivenUp r e ms) es → AllByRecursion (λ e. is_pending e.standing.state ≡ true → GivenUp r e ns) es
   pends_later [] ms ns o p h = tt
   pends_later (e ∷ es) ms ns o p h = ((λ q. given_up_later r e ms ns o.0 p (h.0 q)), pends_later es ms ns o.1 p h.1)
 
-  writes_give : (pre rest : List Entry) (d : Entry) → whole ≡ pre ++ d ∷ rest → All (Other r) pre → Other r d → (ls : List Line) → NeverBelowZero ls → All (λ e. GivenUp r e ls) pre → Writes (Fact r base whole) ls (give R t r d ls)
+  writes_give : (pre rest : List Entry) (d : Entry) → whole ≡ pre ++ d ∷ rest → AllByRecursion (Other r) pre → Other r d → (ls : List Line) → NeverBelowZero ls → AllByRecursion (λ e. GivenUp r e ls) pre → Writes (Fact r base whole) ls (give R t r d ls)
   writes_give pre rest d e o n ls f g = writes_days (Fact r base whole) (Later r ls) _ (λ k ms p.
       let one : Later r ms (post t (cond (R.may_match r d.standing) SetAside Recalled) (aref_of d) r.aref k (min (holding ms (aref_of d) k) (short r k ms)) ms) = later_given r (R.may_match r d.standing) t (aref_of d) k _ ms p.solvent (omega arith) in (
         later_trans r ls ms _ p one,
@@ -118,16 +118,16 @@ module _ (R : Rules) (t : ℕ) (r : Request) (base : List Line) (whole : List En
         )),
       )) (start_of d) (length_of d) ls (later_refl r ls f)
 
-  pub writes_give_all : (pre ds : List Entry) → whole ≡ pre ++ ds → All (Other r) pre → All (Other r) ds → (ls : List Line) → NeverBelowZero ls → All (λ e. InTerm r e ls) ds →
-      All (λ e. GivenUp r e ls) pre → All (λ e. is_pending e.standing.state ≡ true → GivenUp r e ls) ds → Writes (Fact r base whole) ls (give_all R t r ds ls) × Later r ls (give_all R t r ds ls)
+  pub writes_give_all : (pre ds : List Entry) → whole ≡ pre ++ ds → AllByRecursion (Other r) pre → AllByRecursion (Other r) ds → (ls : List Line) → NeverBelowZero ls → AllByRecursion (λ e. InTerm r e ls) ds →
+      AllByRecursion (λ e. GivenUp r e ls) pre → AllByRecursion (λ e. is_pending e.standing.state ≡ true → GivenUp r e ls) ds → Writes (Fact r base whole) ls (give_all R t r ds ls) × Later r ls (give_all R t r ds ls)
   unfolding give_all
   writes_give_all pre [] e o n ls f i g h = (at_first refl, later_refl r ls f)
   writes_give_all pre (d ∷ ds) e o n ls f i g h =
-      go (λ (ms : List Line) (p : NeverBelowZero ms) (u : All (λ x. InTerm r x ms) ds) (v : All (λ x. GivenUp r x ms) (pre ++ d ∷ [])) (w : All (λ x. is_pending x.standing.state ≡ true → GivenUp r x ms) ds).
+      go (λ (ms : List Line) (p : NeverBelowZero ms) (u : AllByRecursion (λ x. InTerm r x ms) ds) (v : AllByRecursion (λ x. GivenUp r x ms) (pre ++ d ∷ [])) (w : AllByRecursion (λ x. is_pending x.standing.state ≡ true → GivenUp r x ms) ds).
       writes_give_all (pre ++ d ∷ []) ds (e ∙ sym (append_assoc pre (d ∷ []) ds)) (All-push (Other r) pre d o n.0) n.1 ms p u v w)
       (is_pending d.standing.state) refl
     where
-      go : ((ms : List Line) → NeverBelowZero ms → All (λ x. InTerm r x ms) ds → All (λ x. GivenUp r x ms) (pre ++ d ∷ []) → All (λ x. is_pending x.standing.state ≡ true → GivenUp r x ms) ds → Writes (Fact r base whole) ms (give_all R t r ds ms) × Later r ms (give_all R t r ds ms)) →
+      go : ((ms : List Line) → NeverBelowZero ms → AllByRecursion (λ x. InTerm r x ms) ds → AllByRecursion (λ x. GivenUp r x ms) (pre ++ d ∷ []) → AllByRecursion (λ x. is_pending x.standing.state ≡ true → GivenUp r x ms) ds → Writes (Fact r base whole) ms (give_all R t r ds ms) × Later r ms (give_all R t r ds ms)) →
           (c : Bool) → is_pending d.standing.state ≡ c → Writes (Fact r base whole) ls (give_all R t r ds (cond c ls (give R t r d ls))) × Later r ls (give_all R t r ds (cond c ls (give R t r d ls)))
       go ih true q = ih ls f i.1 (All-push (λ x. GivenUp r x ls) pre d g (h.0 q)) h.1
       go ih false q =
@@ -137,14 +137,14 @@ module _ (R : Rules) (t : ℕ) (r : Request) (base : List Line) (whole : List En
           (writes_trans (Fact r base whole) ls ms (writes_give pre ds d e o n.0 ls f g) w.0, later_trans r ls ms _ L w.1)
 
   -- one that is superseded
-  writes_supersede : (pre rest : List Entry) (d : Entry) → whole ≡ pre ++ d ∷ rest → is_pending d.standing.state ≡ true → (ls : List Line) → (us : List Line) × (ls ≡ base ++ us) → NeverBelowZero ls → All (λ e. is_pending e.standing.state ≡ true → GivenUp r e ls) pre → Writes (Fact r base whole) ls (supersede t r d ls)
+  writes_supersede : (pre rest : List Entry) (d : Entry) → whole ≡ pre ++ d ∷ rest → is_pending d.standing.state ≡ true → (ls : List Line) → (us : List Line) × (ls ≡ base ++ us) → NeverBelowZero ls → AllByRecursion (λ e. is_pending e.standing.state ≡ true → GivenUp r e ls) pre → Writes (Fact r base whole) ls (supersede t r d ls)
   writes_supersede pre rest d e pe ls from-base f g = go (meets_shortage r d ls) refl
     where
       Since : List Line → Type 0
-      Since ms = Later r ls ms × ((ws : List Line) × (ms ≡ ls ++ ws) × All (λ x. (x.kind ≡ Superseded) × (x.a ≡ aref_of d)) ws)
+      Since ms = Later r ls ms × ((ws : List Line) × (ms ≡ ls ++ ws) × AllByRecursion (λ x. (x.kind ≡ Superseded) × (x.a ≡ aref_of d)) ws)
 
-      one : (k : ℕ) × (start_of d ≤ k) × (k < start_of d + length_of d) × ((eqb (holding ls (aref_of d) k) 0 || eqb (short r k ls) 0) ≡ false) → (k : ℕ) (ms : List Line) → Later r ls ms × ((ws : List Line) × (ms ≡ ls ++ ws) × All (λ x. (x.kind ≡ Superseded) × (x.a ≡ aref_of d)) ws) →
-          (Later r ls (post t Superseded (aref_of d) r.aref k (holding ms (aref_of d) k) ms) × ((ws : List Line) × (post t Superseded (aref_of d) r.aref k (holding ms (aref_of d) k) ms ≡ ls ++ ws) × All (λ x. (x.kind ≡ Superseded) × (x.a ≡ aref_of d)) ws))
+      one : (k : ℕ) × (start_of d ≤ k) × (k < start_of d + length_of d) × ((eqb (holding ls (aref_of d) k) 0 || eqb (short r k ls) 0) ≡ false) → (k : ℕ) (ms : List Line) → Later r ls ms × ((ws : List Line) × (ms ≡ ls ++ ws) × AllByRecursion (λ x. (x.kind ≡ Superseded) × (x.a ≡ aref_of d)) ws) →
+          (Later r ls (post t Superseded (aref_of d) r.aref k (holding ms (aref_of d) k) ms) × ((ws : List Line) × (post t Superseded (aref_of d) r.aref k (holding ms (aref_of d) k) ms ≡ ls ++ ws) × AllByRecursion (λ x. (x.kind ≡ Superseded) × (x.a ≡ aref_of d)) ws))
           × Writes (Fact r base whole) ms (post t Superseded (aref_of d) r.aref k (holding ms (aref_of d) k) ms)
       one w k ms p =
           let L = later_superseded r t (aref_of d) k (holding ms (aref_of d) k) ms p.0.solvent (omega arith) in
@@ -176,33 +176,33 @@ module _ (R : Rules) (t : ℕ) (r : Request) (base : List Line) (whole : List En
             )),
           )
         where
-          grown : (ms : List Line) → (ws : List Line) × (ms ≡ ls ++ ws) × All (λ x. (x.kind ≡ Superseded) × (x.a ≡ aref_of d)) ws → (k : ℕ) → (holding ms (aref_of d) k ≡ 0) ⊎ (holding ms (aref_of d) k ≡ 0 → ⊥) →
-              (ws : List Line) × (post t Superseded (aref_of d) r.aref k (holding ms (aref_of d) k) ms ≡ ls ++ ws) × All (λ x. (x.kind ≡ Superseded) × (x.a ≡ aref_of d)) ws
+          grown : (ms : List Line) → (ws : List Line) × (ms ≡ ls ++ ws) × AllByRecursion (λ x. (x.kind ≡ Superseded) × (x.a ≡ aref_of d)) ws → (k : ℕ) → (holding ms (aref_of d) k ≡ 0) ⊎ (holding ms (aref_of d) k ≡ 0 → ⊥) →
+              (ws : List Line) × (post t Superseded (aref_of d) r.aref k (holding ms (aref_of d) k) ms ≡ ls ++ ws) × AllByRecursion (λ x. (x.kind ≡ Superseded) × (x.a ≡ aref_of d)) ws
           grown ms u k (inl z) = (u.0, post_none t Superseded (aref_of d) r.aref k (holding ms (aref_of d) k) ms z ∙ u.1, u.2)
           grown ms u k (inr ne) =
               let l : Line = record { minute = t; kind = Superseded; a = aref_of d; b = r.aref; day = k; mw = holding ms (aref_of d) k } in
               (u.0 ++ l ∷ [], post_is t Superseded (aref_of d) r.aref k (holding ms (aref_of d) k) ms (omega arith) ∙ (ap (λ x. x ++ l ∷ []) u.1 ∙ append_assoc ls u.0 (l ∷ [])), All-push (λ x. (x.kind ≡ Superseded) × (x.a ≡ aref_of d)) u.0 l u.2 (refl, refl))
 
       go : (c : Bool) → meets_shortage r d ls ≡ c → Writes (Fact r base whole) ls (cond c (by_day (λ k ms. post t Superseded (aref_of d) r.aref k (holding ms (aref_of d) k) ms) (start_of d) (length_of d) ls) ls)
-      go true q = writes_days (Fact r base whole) (λ ms. Later r ls ms × ((ws : List Line) × (ms ≡ ls ++ ws) × All (λ x. (x.kind ≡ Superseded) × (x.a ≡ aref_of d)) ws)) _
+      go true q = writes_days (Fact r base whole) (λ ms. Later r ls ms × ((ws : List Line) × (ms ≡ ls ++ ws) × AllByRecursion (λ x. (x.kind ≡ Superseded) × (x.a ≡ aref_of d)) ws)) _
           (one (each_false _ (start_of d) (length_of d) (not-true _ q))) (start_of d) (length_of d) ls (later_refl r ls f, ([], sym (append-nil ls), tt))
       go false q = at_first refl
 
-  pub writes_supersede_all : (pre ds : List Entry) → whole ≡ pre ++ ds → All (Other r) pre → All (Other r) ds → (ls : List Line) → (us : List Line) × (ls ≡ base ++ us) → NeverBelowZero ls → All (λ e. InTerm r e ls) ds →
-      All (λ e. is_pending e.standing.state ≡ true → GivenUp r e ls) pre →
-      Writes (Fact r base whole) ls (supersede_all t r ds ls) × Later r ls (supersede_all t r ds ls) × All (λ e. is_pending e.standing.state ≡ true → GivenUp r e (supersede_all t r ds ls)) ds
+  pub writes_supersede_all : (pre ds : List Entry) → whole ≡ pre ++ ds → AllByRecursion (Other r) pre → AllByRecursion (Other r) ds → (ls : List Line) → (us : List Line) × (ls ≡ base ++ us) → NeverBelowZero ls → AllByRecursion (λ e. InTerm r e ls) ds →
+      AllByRecursion (λ e. is_pending e.standing.state ≡ true → GivenUp r e ls) pre →
+      Writes (Fact r base whole) ls (supersede_all t r ds ls) × Later r ls (supersede_all t r ds ls) × AllByRecursion (λ e. is_pending e.standing.state ≡ true → GivenUp r e (supersede_all t r ds ls)) ds
   unfolding supersede_all
   writes_supersede_all pre [] e o n ls B f i g = (at_first refl, later_refl r ls f, tt)
   writes_supersede_all pre (d ∷ ds) e o n ls B f i g =
-      go (λ (ms : List Line) (B' : (us : List Line) × (ms ≡ base ++ us)) (p : NeverBelowZero ms) (u : All (λ x. InTerm r x ms) ds) (v : All (λ x. is_pending x.standing.state ≡ true → GivenUp r x ms) (pre ++ d ∷ [])).
+      go (λ (ms : List Line) (B' : (us : List Line) × (ms ≡ base ++ us)) (p : NeverBelowZero ms) (u : AllByRecursion (λ x. InTerm r x ms) ds) (v : AllByRecursion (λ x. is_pending x.standing.state ≡ true → GivenUp r x ms) (pre ++ d ∷ [])).
       writes_supersede_all (pre ++ d ∷ []) ds (e ∙ sym (append_assoc pre (d ∷ []) ds)) (All-push (Other r) pre d o n.0) n.1 ms B' p u v)
       (is_pending d.standing.state) refl
     where
-      go : ((ms : List Line) → (us : List Line) × (ms ≡ base ++ us) → NeverBelowZero ms → All (λ x. InTerm r x ms) ds → All (λ x. is_pending x.standing.state ≡ true → GivenUp r x ms) (pre ++ d ∷ []) →
-          Writes (Fact r base whole) ms (supersede_all t r ds ms) × Later r ms (supersede_all t r ds ms) × All (λ x. is_pending x.standing.state ≡ true → GivenUp r x (supersede_all t r ds ms)) ds) →
+      go : ((ms : List Line) → (us : List Line) × (ms ≡ base ++ us) → NeverBelowZero ms → AllByRecursion (λ x. InTerm r x ms) ds → AllByRecursion (λ x. is_pending x.standing.state ≡ true → GivenUp r x ms) (pre ++ d ∷ []) →
+          Writes (Fact r base whole) ms (supersede_all t r ds ms) × Later r ms (supersede_all t r ds ms) × AllByRecursion (λ x. is_pending x.standing.state ≡ true → GivenUp r x (supersede_all t r ds ms)) ds) →
           (c : Bool) → is_pending d.standing.state ≡ c →
           Writes (Fact r base whole) ls (supersede_all t r ds (cond c (supersede t r d ls) ls)) × Later r ls (supersede_all t r ds (cond c (supersede t r d ls) ls)) ×
-          ((is_pending d.standing.state ≡ true → GivenUp r d (supersede_all t r ds (cond c (supersede t r d ls) ls))) × All (λ x. is_pending x.standing.state ≡ true → GivenUp r x (supersede_all t r ds (cond c (supersede t r d ls) ls))) ds)
+          ((is_pending d.standing.state ≡ true → GivenUp r d (supersede_all t r ds (cond c (supersede t r d ls) ls))) × AllByRecursion (λ x. is_pending x.standing.state ≡ true → GivenUp r x (supersede_all t r ds (cond c (supersede t r d ls) ls))) ds)
       go ih true q =
           let ms = supersede t r d ls in
           let L : Later r ls ms = later_supersede r t d n.0 ls f in
@@ -216,7 +216,7 @@ module _ (R : Rules) (t : ℕ) (r : Request) (base : List Line) (whole : List En
           (w.0, w.1, ((λ p. absurd (false≢true (sym q ∙ p))), w.2))
 
   -- all of it
-  pub writes_preempt : (s d : ℕ) → All (Other r) whole → (ls : List Line) → (us : List Line) × (ls ≡ base ++ us) → NeverBelowZero ls → All (λ e. InTerm r e ls) whole →
+  pub writes_preempt : (s d : ℕ) → AllByRecursion (Other r) whole → (ls : List Line) → (us : List Line) × (ls ≡ base ++ us) → NeverBelowZero ls → AllByRecursion (λ e. InTerm r e ls) whole →
       Writes (Fact r base whole) ls (give_all R t r whole (by_day (grant t r) s d (supersede_all t r whole ls)))
   writes_preempt s d o ls B f i =
       let a = writes_supersede_all [] whole refl tt o ls B f i tt in

@@ -1,6 +1,6 @@
 -- Calls about others leave a match alone, and a match that is closed stays so.
 use Rattle.std.proofs.Common.{◌≡◌, ℕ, ◌+◌, ◌<◌, ◌≤◌, min, Bool, true, false, cond, ◌&&◌, eqb, ◌⊎◌, List, [], ◌∷◌, ◌++◌, sym, refl, ap, ◌∙◌, subst, inl, inr, arith}
-use Rattle.std.specs.List.{AllByRecursion as All}
+use Rattle.std.specs.List.{AllByRecursion}
 use Rattle.std.proofs.lemmas.Bool.{ne_eqb, eqb-true, cases_Bool, and_left, and_right}
 use Rattle.journal.specs.declared.line.Line.{Line}
 use Rattle.journal.specs.declared.line.LineKind.{LineKind}
@@ -117,7 +117,7 @@ mute sub n x a b base ne {ms} (and_then ks l w s e) k =
     (ap (noted comes_back a b k) e ∙ omega (arith, noted_push comes_back a b k ks l, q.0, ih.0), ap (noted goes_over a b k) e ∙ omega (arith, noted_push goes_over a b k ks l, q.1, ih.1))
 
 -- nothing is noted of an AREF above all
-pub noted_none : (p : LineKind → Bool) (n a b k : ℕ) (ls : List Line) → n ≤ b → All (λ l. (l.a < n) × (l.b < n)) ls → noted p a b k ls ≡ 0
+pub noted_none : (p : LineKind → Bool) (n a b k : ℕ) (ls : List Line) → n ≤ b → AllByRecursion (λ l. (l.a < n) × (l.b < n)) ls → noted p a b k ls ≡ 0
 unfolding noted
 noted_none p n a b k [] h A = refl
 noted_none p n a b k (l ∷ ls) h A =

@@ -1,6 +1,6 @@
 -- One line more: what it does to the accounts, and that a line which takes no more than there is keeps them fine.
 use Rattle.std.proofs.Common.{◌≡◌, ℕ, zero, suc, ◌+◌, ◌<◌, ◌≤◌, Bool, true, false, cond, ◌&&◌, eqb, ◌⊎◌, List, [], ◌∷◌, ◌++◌, length, take, refl, ap, ◌∙◌, inl, inr, arith}
-use Rattle.std.specs.List.{AllByRecursion as All}
+use Rattle.std.specs.List.{AllByRecursion}
 use Rattle.std.proofs.lemmas.List.{take_all, take-append-le, length_push}
 use Rattle.std.proofs.ByRecursion.{All-push, All-weaker}
 use Rattle.std.proofs.lemmas.Bool.{ne_eqb, eqb-true, cases_lt, cases_Bool, and_parts}
@@ -70,7 +70,7 @@ takes_le x k l B h = go (cases_Bool (eqb l.day k && same x (source l)))
 
 pub record Fine (n : ℕ) (p : ℕ → ℕ) (ls : List Line) : Type 0 where
   pub solvent : NeverBelowZero ls
-  pub names : All (λ l. (l.a < n) × (l.b < n)) ls
+  pub names : AllByRecursion (λ l. (l.a < n) × (l.b < n)) ls
   pub whole : (k : ℕ) → brought ls k ≡ p k
 
 not_outside : (x : Account) → 0 < sort x → same outside x ≡ false

@@ -1,6 +1,6 @@
 -- Every call writes only lines that are paid for.
 use Rattle.std.proofs.Common.{ℕ, ◌<◌, min, Bool, true, false, cond, List, [], ◌∷◌, arith}
-use Rattle.std.specs.List.{AllByRecursion as All}
+use Rattle.std.specs.List.{AllByRecursion}
 use Rattle.terms.specs.declared.request.Request.{Request}
 use Rattle.terms.specs.Words.{is_pending}
 use Rattle.sheets.specs.Rules.{Rules}
@@ -49,7 +49,7 @@ module _ (n : ℕ) (p : ℕ → ℕ) where
       go true = fine_days n p _ (λ k ms g. fine_post n p t SetAside (aref_of d) r.aref k (min (holding ms (aref_of d) k) (short r k ms)) ms g (omega arith) (omega arith) j h) (start_of d) (length_of d) ls f
       go false = fine_days n p _ (λ k ms g. fine_post n p t Recalled (aref_of d) r.aref k (min (holding ms (aref_of d) k) (short r k ms)) ms g (omega arith) (omega arith) j h) (start_of d) (length_of d) ls f
 
-  fine_supersede_all : (t : ℕ) (r : Request) (ds : List Entry) (ls : List Line) → r.aref < n → All (λ d. aref_of d < n) ds → Fine n p ls → Fine n p (supersede_all t r ds ls)
+  fine_supersede_all : (t : ℕ) (r : Request) (ds : List Entry) (ls : List Line) → r.aref < n → AllByRecursion (λ d. aref_of d < n) ds → Fine n p ls → Fine n p (supersede_all t r ds ls)
   unfolding supersede_all
   fine_supersede_all t r [] ls h a f = f
   fine_supersede_all t r (d ∷ ds) ls h a f = fine_supersede_all t r ds _ h a.1 (go (is_pending d.standing.state))
@@ -58,7 +58,7 @@ module _ (n : ℕ) (p : ℕ → ℕ) where
       go true = fine_supersede t r d ls h a.0 f
       go false = f
 
-  fine_give_all : (R : Rules) (t : ℕ) (r : Request) (ds : List Entry) (ls : List Line) → r.aref < n → All (λ d. aref_of d < n) ds → Fine n p ls → Fine n p (give_all R t r ds ls)
+  fine_give_all : (R : Rules) (t : ℕ) (r : Request) (ds : List Entry) (ls : List Line) → r.aref < n → AllByRecursion (λ d. aref_of d < n) ds → Fine n p ls → Fine n p (give_all R t r ds ls)
   unfolding give_all
   fine_give_all R t r [] ls h a f = f
   fine_give_all R t r (d ∷ ds) ls h a f = fine_give_all R t r ds _ h a.1 (go (is_pending d.standing.state))
@@ -67,5 +67,5 @@ module _ (n : ℕ) (p : ℕ → ℕ) where
       go true = f
       go false = fine_give R t r d ls h a.0 f
 
-  pub fine_preempt : (R : Rules) (t : ℕ) (r : Request) (v : View) → r.aref < n → All (λ d. aref_of d < n) (defenders R t r v) → Fine n p v.lines → Fine n p (preempt R t r v)
+  pub fine_preempt : (R : Rules) (t : ℕ) (r : Request) (v : View) → r.aref < n → AllByRecursion (λ d. aref_of d < n) (defenders R t r v) → Fine n p v.lines → Fine n p (preempt R t r v)
   fine_preempt R t r v h a f = fine_give_all R t r _ _ h a (fine_grant t r _ _ _ h (fine_supersede_all t r _ _ h a f))

@@ -1,6 +1,6 @@
 -- Every call keeps the journal fine.
 use Rattle.std.proofs.Common.{◌≡◌, ℕ, zero, suc, ◌<◌, ◌≤◌, Bool, true, false, cond, ltb, List, [], ◌∷◌, map, length, replicate, refl, arith}
-use Rattle.std.specs.List.{AllByRecursion as All}
+use Rattle.std.specs.List.{AllByRecursion}
 use Rattle.std.proofs.ByRecursion.{All-weaker}
 use Rattle.std.proofs.lemmas.Bool.{leb-false}
 use Rattle.law.specs.Calls
@@ -28,18 +28,18 @@ Small n e = (aref_of e ≤ n) × (e.against ≤ n)
 
 pub record Sound (p : ℕ → ℕ) (v : View) : Type 0 where
   pub fine : Fine (suc v.top) p v.lines
-  pub low : All (Small v.top) v.places
+  pub low : AllByRecursion (Small v.top) v.places
 
 -- what a call makes is sound with n as the highest AREF
 Good : (ℕ → ℕ) → ℕ → Made → Type 0
 Good p n (refused c) = Unit {0}
-Good p n (makes ls es a s) = Fine (suc n) p ls × All (Small n) es
+Good p n (makes ls es a s) = Fine (suc n) p ls × AllByRecursion (Small n) es
 
 refuses : (p : ℕ → ℕ) (n : ℕ) (c : Refusal) → Good p n (refused c)
 unfolding Good
 refuses p n c = tt
 
-good : (p : ℕ → ℕ) (n : ℕ) (ls : List Line) (es : List Entry) (a : ℕ) (s : State) → Fine (suc n) p ls → All (Small n) es → Good p n (makes ls es a s)
+good : (p : ℕ → ℕ) (n : ℕ) (ls : List Line) (es : List Entry) (a : ℕ) (s : State) → Fine (suc n) p ls → AllByRecursion (Small n) es → Good p n (makes ls es a s)
 unfolding Good
 good p n ls es a s f l = (f, l)
 
@@ -67,8 +67,8 @@ module _ (R : Rules) (p : ℕ → ℕ) (v : View) (S : Sound p v) where
   good_flew : (t : ℕ) (e : Entry) → Small v.top e → Good p v.top (Calls.flew t e v)
   good_flew t e l = good p _ _ _ _ _ (fine_fly (suc v.top) p t (aref_of e) _ _ v.lines (omega arith) S.fine) (all_change (Small v.top) (aref_of e) Places.leave v.places (λ d h. h) S.low)
 
-  low_close : (t n b : ℕ) (ls : List Line) (es : List Entry) → All (Small n) es → All (Small n) (Calls.close_if_last R t ls b es)
-  low_close t n b ls es h = cond_is (All (Small n)) (Places.match_open es) es _ h (all_change (Small n) b (Calls.close R t ls) es (λ e q. cond_is (Small n) (is_pending (Calls.closed_state ls e)) _ _ q q) h)
+  low_close : (t n b : ℕ) (ls : List Line) (es : List Entry) → AllByRecursion (Small n) es → AllByRecursion (Small n) (Calls.close_if_last R t ls b es)
+  low_close t n b ls es h = cond_is (AllByRecursion (Small n)) (Places.match_open es) es _ h (all_change (Small n) b (Calls.close R t ls) es (λ e q. cond_is (Small n) (is_pending (Calls.closed_state ls e)) _ _ q q) h)
 
   good_declined : (t : ℕ) (e : Entry) → Small v.top e → Good p v.top (Calls.declined R t e v)
   good_declined t e l = good p _ _ _ _ _ (fine_lose (suc v.top) p t (aref_of e) e.against _ _ v.lines (omega arith) (omega arith) S.fine)
@@ -91,10 +91,10 @@ module _ (R : Rules) (p : ℕ → ℕ) (v : View) (S : Sound p v) where
   good_by_aref : (q : State → Bool) (a : ℕ) (f : Entry → Made) → ((e : Entry) → Small v.top e → Good p v.top (f e)) → Good p v.top (Calls.by_aref q a v f)
   good_by_aref q a f h = good_stop p v.top _ _ _ (λ _. good_stop p v.top _ _ _ (λ _. h (find a v.places) (all_find (Small v.top) a v.places low_nobody S.low)))
 
-  good_entered : (t : ℕ) (r : Request) (s : State) (ls : List Line) (es : List Entry) → Fine (suc r.aref) p ls → All (Small r.aref) es → Good p r.aref (Calls.entered R t r s ls es)
+  good_entered : (t : ℕ) (r : Request) (s : State) (ls : List Line) (es : List Entry) → Fine (suc r.aref) p ls → AllByRecursion (Small r.aref) es → Good p r.aref (Calls.entered R t r s ls es)
   good_entered t r s ls es f l = good p _ _ _ _ _ f (all_seat (Small r.aref) _ es (omega arith) l)
 
-  low_after : (t : ℕ) (r : Request) (ls : List Line) → All (Small r.aref) v.places → All (Small r.aref) (map (Preemption.after_preempt R t r v ls) v.places)
+  low_after : (t : ℕ) (r : Request) (ls : List Line) → AllByRecursion (Small r.aref) v.places → AllByRecursion (Small r.aref) (map (Preemption.after_preempt R t r v ls) v.places)
   low_after t r ls l = all_maps (Small r.aref) _ v.places (λ e h.
       cond_is (Small r.aref) (Preemption.defends R t r v.days e) _ _ (cond_is (Small r.aref) (Preemption.none_aside ls r.aref e) _ _ (cond_is (Small r.aref) (Preemption.empty ls e) _ _ h h) (h.0, omega arith)) h) l
 
@@ -103,9 +103,9 @@ module _ (R : Rules) (p : ℕ → ℕ) (v : View) (S : Sound p v) where
       good_stop p r.aref _ _ _ (λ above.
       let up : v.top < r.aref = leb-false r.aref v.top above in
       let f : Fine (suc r.aref) p v.lines = fine_wider _ _ p v.lines (omega arith) S.fine in
-      let l : All (Small r.aref) v.places = All-weaker _ _ (λ e h. omega arith) v.places S.low in
+      let l : AllByRecursion (Small r.aref) v.places = All-weaker _ _ (λ e h. omega arith) v.places S.low in
       let g : Fine (suc r.aref) p (by_day (Preemption.grant t r) r.start r.length v.lines) = fine_grant (suc r.aref) p t r _ _ v.lines (omega arith) f in
-      let ds : All (λ d. aref_of d < suc r.aref) (Preemption.defenders R t r v) = all_in_turn (λ d. aref_of d < suc r.aref) R _ (all_kept (λ d. aref_of d < suc r.aref) _ v.places (All-weaker _ _ (λ e h. omega arith) v.places l)) in
+      let ds : AllByRecursion (λ d. aref_of d < suc r.aref) (Preemption.defenders R t r v) = all_in_turn (λ d. aref_of d < suc r.aref) R _ (all_kept (λ d. aref_of d < suc r.aref) _ v.places (All-weaker _ _ (λ e h. omega arith) v.places l)) in
       good_stop p r.aref _ _ _ (λ _. good_stop p r.aref _ _ _ (λ _. good_stop p r.aref _ _ _ (λ _.
       good_if p r.aref _ _ _ (λ _. good_entered t r _ _ _ g l) (λ _.
       good_stop p r.aref _ _ _ (λ _.
@@ -134,7 +134,7 @@ unfolding run
 sound_run R p [] v S = S
 sound_run R p (c ∷ cs) v S = sound_run R p cs (step R c v).1 (sound_step R p v S c)
 
-low_places : (n : ℕ) → All (Small 0) (replicate n nobody)
+low_places : (n : ℕ) → AllByRecursion (Small 0) (replicate n nobody)
 low_places zero = tt
 low_places (suc n) = (omega arith, low_places n)
 

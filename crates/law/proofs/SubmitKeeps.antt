@@ -2,7 +2,7 @@
 use Rattle.std.proofs.Common.{◌≡◌, ℕ, ◌+◌, ◌<◌, ◌≤◌, min, Bool, true, false, cond, not, ◌&&◌, ◌||◌, eqb, ltb, leb, ◌⊎◌, List, [], ◌∷◌, map, sym, refl, ap, ◌∙◌, subst, inl, inr, arith}
 use mathlib.Core.List.Memᴰ
 use mathlib.Core.List.{Memᴰ}
-use Rattle.std.specs.List.{AllByRecursion as All}
+use Rattle.std.specs.List.{AllByRecursion}
 use Rattle.std.proofs.lemmas.Bool.{ne_eqb, eqb-true, cases_eq, cases_Bool, and_parts, and_left, and_right, or_left, or_right, false≢true, cond-false, leb-true, ltb-true}
 use Rattle.law.specs.Places
 use Rattle.law.specs.Preemption
@@ -84,7 +84,7 @@ module _ (R : Rules) (t : ℕ) (r : Request) (p : Entry → Bool) (es : List Ent
       go true = fit_supersede d ls s
       go false = s
 
-  fit_give_all : (ds : List Entry) → All (λ d. (find (aref_of d) es ≡ d) × (R.may_match r d.standing ≡ true → p d ≡ true) × (r.aref ≡ aref_of d → ⊥)) ds → (ls : List Line) → Supp (Hold⁺ es r) (Side⁺ p es r) ls → Supp (Hold⁺ es r) (Side⁺ p es r) (give_all R t r ds ls)
+  fit_give_all : (ds : List Entry) → AllByRecursion (λ d. (find (aref_of d) es ≡ d) × (R.may_match r d.standing ≡ true → p d ≡ true) × (r.aref ≡ aref_of d → ⊥)) ds → (ls : List Line) → Supp (Hold⁺ es r) (Side⁺ p es r) ls → Supp (Hold⁺ es r) (Side⁺ p es r) (give_all R t r ds ls)
   unfolding give_all
   fit_give_all [] D ls s = s
   fit_give_all (d ∷ ds) D ls s = fit_give_all ds D.1 _ (go (is_pending d.standing.state))
@@ -93,7 +93,7 @@ module _ (R : Rules) (t : ℕ) (r : Request) (p : Entry → Bool) (es : List Ent
       go true = s
       go false = fit_give d D.0 ls s
 
-  pub fit_preempt : (ds : List Entry) → All (λ d. (find (aref_of d) es ≡ d) × (R.may_match r d.standing ≡ true → p d ≡ true) × (r.aref ≡ aref_of d → ⊥)) ds → (ls : List Line) → Supp (Hold⁺ es r) (Side⁺ p es r) ls → Supp (Hold⁺ es r) (Side⁺ p es r) (give_all R t r ds (by_day (grant t r) r.start r.length (supersede_all t r ds ls)))
+  pub fit_preempt : (ds : List Entry) → AllByRecursion (λ d. (find (aref_of d) es ≡ d) × (R.may_match r d.standing ≡ true → p d ≡ true) × (r.aref ≡ aref_of d → ⊥)) ds → (ls : List Line) → Supp (Hold⁺ es r) (Side⁺ p es r) ls → Supp (Hold⁺ es r) (Side⁺ p es r) (give_all R t r ds (by_day (grant t r) r.start r.length (supersede_all t r ds ls)))
   fit_preempt ds D ls s = fit_give_all ds D _ (fit_grant _ (fit_supersede_all ds ls s))
 
 -- the new record takes a place

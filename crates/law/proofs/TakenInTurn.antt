@@ -2,7 +2,7 @@
 use Rattle.std.proofs.Common.{◌≡◌, ℕ, ◌<◌, ◌≤◌, Bool, true, false, cond, ◌||◌, eqb, ◌⊎◌, List, [], ◌∷◌, ◌++◌, length, filter, sym, refl, ap, ◌∙◌, subst, inl, inr, arith}
 use mathlib.Core.List.Memᴰ
 use mathlib.Core.List.{Memᴰ}
-use Rattle.std.specs.List.{AllByRecursion as All}
+use Rattle.std.specs.List.{AllByRecursion}
 use Rattle.std.proofs.ByRecursion.{All-weaker}
 use Rattle.std.proofs.lemmas.List.{append_assoc, append_cancel_left, append-nil, length-append}
 use Rattle.std.proofs.lemmas.Bool.{and_parts, false≢true, not_from_true, eq-eqb, and_from, leb-false, or_cases}
@@ -36,7 +36,7 @@ use Rattle.law.proofs.KeptOverRuns.{Right, right_at, terms_at}
 use Rattle.law.proofs.Terms.{living_possible, found_possible}
 
 -- no two living records of one AREF
-none_of : (a : ℕ) (es : List Entry) → count a es ≡ 0 → All (λ e. living e ≡ true → aref_of e ≡ a → ⊥) es
+none_of : (a : ℕ) (es : List Entry) → count a es ≡ 0 → AllByRecursion (λ e. living e ≡ true → aref_of e ≡ a → ⊥) es
 unfolding count
 none_of a [] h = tt
 none_of a (e ∷ es) h = ((λ l q. let z = and_from (living e) (eqb (aref_of e) a) l (eq-eqb (aref_of e) a q) in let y = rw z at h in omega arith), none_of a es (omega arith))
@@ -46,15 +46,15 @@ unfolding count
 different p l [] o = tt
 different p l (e ∷ es) o = go (p e) refl (different p l es (λ a. omega (arith, o a)))
   where
-    pass : (xs : List Entry) → All (λ x. p x ≡ true) (filter p xs)
+    pass : (xs : List Entry) → AllByRecursion (λ x. p x ≡ true) (filter p xs)
     pass [] = tt
     pass (x ∷ xs) = put (p x) refl (pass xs)
       where
-        put : (c : Bool) → p x ≡ c → All (λ y. p y ≡ true) (filter p xs) → All (λ y. p y ≡ true) (cond c (x ∷ filter p xs) (filter p xs))
+        put : (c : Bool) → p x ≡ c → AllByRecursion (λ y. p y ≡ true) (filter p xs) → AllByRecursion (λ y. p y ≡ true) (cond c (x ∷ filter p xs) (filter p xs))
         put true q h = (q, h)
         put false q h = h
 
-    both : (P Q : Entry → Type 0) (xs : List Entry) → All P xs → All Q xs → All (λ x. P x × Q x) xs
+    both : (P Q : Entry → Type 0) (xs : List Entry) → AllByRecursion P xs → AllByRecursion Q xs → AllByRecursion (λ x. P x × Q x) xs
     both P Q [] a b = tt
     both P Q (x ∷ xs) a b = ((a.0, b.0), both P Q xs a.1 b.1)
 
@@ -66,7 +66,7 @@ different p l (e ∷ es) o = go (p e) refl (different p l es (λ a. omega (arith
         (All-weaker _ _ (λ x h (u : aref_of e ≡ aref_of x). h.0 (l x h.1) (sym u)) (filter p es) (both _ _ (filter p es) (all_kept _ p es (none_of (aref_of e) es n)) (pass es)), d)
     go false q d = d
 
-module _ (R : Rules) (L : Lawful R) (p : ℕ → ℕ) (v : View) (I : Right p v) (terms : All (Termed v.days) v.places) (t : ℕ) (r : Request) where
+module _ (R : Rules) (L : Lawful R) (p : ℕ → ℕ) (v : View) (I : Right p v) (terms : AllByRecursion (Termed v.days) v.places) (t : ℕ) (r : Request) where
   abbrev ds : List Entry
   ds = Preemption.defenders R t r v
 
@@ -180,16 +180,16 @@ module _ (R : Rules) (L : Lawful R) (p : ℕ → ℕ) (v : View) (I : Right p v)
             let y = L.one_first (find e v.places).standing d.standing pe possible ne in
             absurd (false≢true (sym (y ∙ not_from_true _ x) ∙ h))
 
-    none_since : (a : ℕ) (ws : List Line) → All (λ x. x.kind ≡ Superseded → x.a ≡ a → ⊥) ws → All (λ x. (x.kind ≡ Superseded) × (x.a ≡ a)) ws → ws ≡ []
+    none_since : (a : ℕ) (ws : List Line) → AllByRecursion (λ x. x.kind ≡ Superseded → x.a ≡ a → ⊥) ws → AllByRecursion (λ x. (x.kind ≡ Superseded) × (x.a ≡ a)) ws → ws ≡ []
     none_since a [] h g = refl
     none_since a (x ∷ ws) h g = absurd (h.0 g.0.0 g.0.1)
 
-    second : (P : Line → Type 0) (us ws : List Line) → All P (us ++ ws) → All P ws
+    second : (P : Line → Type 0) (us ws : List Line) → AllByRecursion P (us ++ ws) → AllByRecursion P ws
     second P [] ws h = h
     second P (u ∷ us) ws h = second P us ws h.1
 
     ousted : (xs : List Line) (l : Line) → Ousted r v.lines (Preemption.defenders R t r v) (v.lines ++ xs) l → Later r (v.lines ++ xs) w.lines →
-        (l.b ≡ r.aref) × OpenTo R t r v l.a × (All (λ x. x.kind ≡ Superseded → x.a ≡ l.a → ⊥) xs → (k : ℕ) × (0 < holding (v.lines ++ xs) l.a k) × (0 < short r k (v.lines ++ xs)) × EarlierBare R t r v w l.a k)
+        (l.b ≡ r.aref) × OpenTo R t r v l.a × (AllByRecursion (λ x. x.kind ≡ Superseded → x.a ≡ l.a → ⊥) xs → (k : ℕ) × (0 < holding (v.lines ++ xs) l.a k) × (0 < short r k (v.lines ++ xs)) × EarlierBare R t r v w l.a k)
     ousted xs l T La =
         let s = stands T.pre T.rest T.giver T.split in
         let f : find l.a v.places ≡ T.giver = ap (λ i. find i v.places) T.from_giver ∙ s.0 in (
@@ -197,7 +197,7 @@ module _ (R : Rules) (L : Lawful R) (p : ℕ → ℕ) (v : View) (I : Right p v)
           ap (Preemption.defends R t r v.days) f ∙ s.1,
           (λ first.
               let e₁ : xs ≡ T.start.0 ++ T.since = append_cancel_left v.lines xs (T.start.0 ++ T.since) (T.now ∙ (ap (λ x. x ++ T.since) T.start.1 ∙ append_assoc v.lines T.start.0 T.since)) in
-              let own : All (λ x. x.kind ≡ Superseded → x.a ≡ aref_of T.giver → ⊥) T.since = second _ T.start.0 T.since (subst (λ x. All (λ y. y.kind ≡ Superseded → y.a ≡ aref_of T.giver → ⊥) x) e₁ (subst (λ a. All (λ x. x.kind ≡ Superseded → x.a ≡ a → ⊥) xs) T.from_giver first)) in
+              let own : AllByRecursion (λ x. x.kind ≡ Superseded → x.a ≡ aref_of T.giver → ⊥) T.since = second _ T.start.0 T.since (subst (λ x. AllByRecursion (λ y. y.kind ≡ Superseded → y.a ≡ aref_of T.giver → ⊥) x) e₁ (subst (λ a. AllByRecursion (λ x. x.kind ≡ Superseded → x.a ≡ a → ⊥) xs) T.from_giver first)) in
               let nil : T.since ≡ [] = none_since (aref_of T.giver) T.since own T.own in
               let same : v.lines ++ xs ≡ T.before = T.now ∙ (ap (λ x. T.before ++ x) nil ∙ append-nil T.before) in (
                 T.day',

@@ -1,6 +1,6 @@
 -- What every book keeps, from its opening on.
 use Rattle.std.specs.Prelude.{◌≡◌, ℕ, suc, ◌+◌, ◌<◌, ◌≤◌, true, length}
-use Rattle.std.specs.List.{AllByRecursion as All}
+use Rattle.std.specs.List.{AllByRecursion}
 use Rattle.terms.specs.Days.{Days}
 use Rattle.terms.specs.Words.{is_challenged, is_competing}
 use Rattle.journal.specs.Accounts.{held, aside, balance, brought, NeverBelowZero, NamesBelow}
@@ -36,5 +36,5 @@ pub record Kept (v : View) : Type 0 where
       InTerm (find b v.places) day × (is_competing (find b v.places).standing.state ≡ true)
   -- living records have different AREFs
   pub once : (a : ℕ) → count a v.places ≤ 1
-  pub terms : All (Termed v.days) v.places
-  pub accepted : All (AcceptedBy v.top) v.places
+  pub terms : AllByRecursion (Termed v.days) v.places
+  pub accepted : AllByRecursion (AcceptedBy v.top) v.places

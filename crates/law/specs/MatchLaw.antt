@@ -1,6 +1,6 @@
 -- The law of matches: what is set aside is wholly aside, comes back whole, or goes whole to the challenger.
 use Rattle.std.specs.Prelude.{◌≡◌, ℕ, ◌+◌, ◌<◌, ◌≤◌, Bool, true, false, cond, ◌&&◌, ◌⊎◌, List, [], ◌∷◌, ◌++◌, ◌==◌}
-use Rattle.std.specs.List.{AllByRecursion as All}
+use Rattle.std.specs.List.{AllByRecursion}
 use Rattle.terms.specs.declared.request.Request.{Request}
 use Rattle.terms.specs.Days.{Days}
 use Rattle.terms.specs.Limits.{sellable}
@@ -85,7 +85,7 @@ pub record WentOver (R : Rules) (r : Request) (s : ℕ → ℕ) (a : ℕ) (v : V
 -- the answer-by given at the submit
 abbrev pub OneFate : Type 0
 OneFate = (R : Rules) → Lawful R → (days : Days) (places room : ℕ) (before : List Call) (minute : ℕ) (r : Request) (after : List Call) (a day : ℕ) →
-    All IsChecked before → sellable r ≡ true → All IsChecked after →
+    AllByRecursion IsChecked before → sellable r ≡ true → AllByRecursion IsChecked after →
     let v = run R before (opened days places room) in
     let w = (step R (submit minute r) v).1 in
     let s : ℕ → ℕ = λ k. balance w.lines (aside a r.aref) k in

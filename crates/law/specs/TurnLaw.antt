@@ -1,6 +1,6 @@
 -- The law of turn: over every list of calls nothing is taken from anyone out of turn.
 use Rattle.std.specs.Prelude.{◌≡◌, ℕ, ◌<◌, Bool, true, false, List, ◌∷◌, ◌++◌, ◌≢◌}
-use Rattle.std.specs.List.{AllByRecursion as All}
+use Rattle.std.specs.List.{AllByRecursion}
 use Rattle.terms.specs.declared.request.Request.{Request}
 use Rattle.terms.specs.Days.{Days}
 use Rattle.terms.specs.Limits.{sellable}
@@ -43,7 +43,7 @@ RightlyTaken R minute r v w xs ms l Posted = ⊥
 RightlyTaken R minute r v w xs ms l Granted = Unit {0}
 -- a superseded record held MW, before its first line, on a day that was short, and there every earlier defender is bare
 RightlyTaken R minute r v w xs ms l Superseded = (l.b ≡ r.aref) × OpenTo R minute r v l.a ×
-    (All (λ x. x.kind ≡ Superseded → x.a ≢ l.a) xs → (day : ℕ) × (0 < holding ms l.a day) × (0 < short r day ms) × EarlierBare R minute r v w l.a day)
+    (AllByRecursion (λ x. x.kind ≡ Superseded → x.a ≢ l.a) xs → (day : ℕ) × (0 < holding ms l.a day) × (0 < short r day ms) × EarlierBare R minute r v w l.a day)
 -- on a day recalled or set aside every earlier defender is bare
 RightlyTaken R minute r v w xs ms l Recalled = (l.b ≡ r.aref) × OpenTo R minute r v l.a × EarlierBare R minute r v w l.a l.day
 RightlyTaken R minute r v w xs ms l SetAside = (l.b ≡ r.aref) × OpenTo R minute r v l.a × EarlierBare R minute r v w l.a l.day
@@ -57,7 +57,7 @@ RightlyTaken R minute r v w xs ms l Flown = ⊥
 -- of every submit after every list of calls, each line that it wrote was rightly taken
 abbrev pub TakenInTurn : Type 0
 TakenInTurn = (R : Rules) → Lawful R → (days : Days) (places room : ℕ) (calls : List Call) (minute : ℕ) (r : Request) →
-    All IsChecked calls →
+    AllByRecursion IsChecked calls →
     let v = run R calls (opened days places room) in
     let w = (step R (submit minute r) v).1 in
     (xs zs : List Line) (l : Line) → w.lines ≡ (v.lines ++ xs) ++ l ∷ zs → RightlyTaken R minute r v w xs (v.lines ++ xs) l l.kind

@@ -1,5 +1,5 @@
 // A record that leaves: its MW become free, or have flown, and its place is given back.
-ghost use Rattle.std.specs.Prelude.{◌≡◌, ◌<◌, true, length, slice_index_or};
+ghost use Rattle.std.specs.Prelude.{◌≡◌, ◌<◌, ◌≤◌, true, length, slice_index_or};
 ghost use Rattle.admitting.specs.Writing.{Writes};
 ghost use Rattle.answers.specs.Told.{told};
 ghost use Rattle.desk.specs.Desks.{view};
@@ -27,6 +27,7 @@ fn leave(
     taker: Side,
 ) -> Result<Done, Refusal>
     requires sound { Sound desk.old }
+    requires few_lines { length desk.old.lines.now ≤ 65536 }
     requires way { WayOut kind taker }
     requires within { i < length desk.old.places.now }
     requires lives { living (slice_index_or (view desk.old).places i nobody) ≡ true }
@@ -63,6 +64,7 @@ fn leave(
 // What the record in a place holds becomes free, and the record is gone.
 pub fn let_go(desk: &mut Desk, minute: u32, i: usize) -> Result<Done, Refusal>
     requires sound { Sound desk.old }
+    requires few_lines { length desk.old.lines.now ≤ 65536 }
     requires within { i < length desk.old.places.now }
     requires lives { living (slice_index_or (view desk.old).places i nobody) ≡ true }
     ensures shown { Showing desk.new }
@@ -74,6 +76,7 @@ pub fn let_go(desk: &mut Desk, minute: u32, i: usize) -> Result<Done, Refusal>
 // What the record in a place holds has flown, and the record is gone.
 pub fn fly(desk: &mut Desk, minute: u32, i: usize) -> Result<Done, Refusal>
     requires sound { Sound desk.old }
+    requires few_lines { length desk.old.lines.now ≤ 65536 }
     requires within { i < length desk.old.places.now }
     requires lives { living (slice_index_or (view desk.old).places i nobody) ≡ true }
     ensures shown { Showing desk.new }

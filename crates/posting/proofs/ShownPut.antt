@@ -1,6 +1,6 @@
 -- One amount is put on a side, and memory shows the accounts with it.
 use Rattle.std.proofs.Common.{◌≡◌, ℕ, ◌+◌, ◌-◌, ◌<◌, ◌≤◌, Bool, true, false, cond, ◌&&◌, eqb, ◌≢◌, ◌⊎◌, List, map, length, get_or, set, sym, refl, ◌∙◌, subst, inl, inr, arith}
-use Rattle.std.specs.List.{AllByRecursion as All}
+use Rattle.std.specs.List.{AllByRecursion}
 use Rattle.std.proofs.ByRecursion.{All-get_or, All-from_get_or, All-weaker}
 use Rattle.std.proofs.lemmas.List.{length-map, get_or-map, get_or-set_same, get_or-set_other, length-set}
 use Rattle.std.proofs.lemmas.Bool.{eq-eqb, ne_eqb, cases_eq, and_from, and_right}
@@ -79,7 +79,7 @@ module _ (B : Account → ℕ → ℕ) (amounts : List ℕ) (places : List Recor
 
   -- one place is changed and shows its new accounts; the others keep theirs
   set_shown : (i : ℕ) (r : Record) (C : Account → ℕ → ℕ) → i < length places → Shows C r →
-      ((j : ℕ) → j < length places → (j ≡ i → ⊥) → Shows C (place places j)) → All (Shows C) (set places i r)
+      ((j : ℕ) → j < length places → (j ≡ i → ⊥) → Shows C (place places j)) → AllByRecursion (Shows C) (set places i r)
   set_shown i r C h new others = All-from_get_or (Shows C) (set places i r) unread (λ j l. go j (omega (arith, length-set places i r)) (cases_eq j i))
     where
       go : (j : ℕ) → j < length places → (j ≡ i) ⊎ (j ≡ i → ⊥) → Shows C (get_or (set places i r) j unread)

@@ -1,6 +1,6 @@
 -- What giving sets aside: of the giver alone, and something where it meets a shortage and has the right.
 use Rattle.std.proofs.Common.{◌≡◌, ℕ, zero, suc, ◌+◌, ◌<◌, ◌≤◌, min, Bool, true, false, cond, not, ◌&&◌, ◌||◌, eqb, ◌≢◌, ◌⊎◌, List, [], ◌∷◌, sym, refl, ap, ◌∙◌, subst, inl, inr, arith}
-use Rattle.std.specs.List.{AllByRecursion as All}
+use Rattle.std.specs.List.{AllByRecursion}
 use Rattle.std.proofs.lemmas.Bool.{eq-eqb, ne_eqb, or_right, not-true, false≢true}
 use Rattle.terms.specs.declared.request.Request.{Request}
 use Rattle.terms.specs.Words.{is_pending}
@@ -75,7 +75,7 @@ module _ (R : Rules) (t : ℕ) (r : Request) (e : Entry) (ms : List Line) (fine 
               out true e' = absurd (false≢true (sym q ∙ each_true p s n e' k lo hi))
 
 -- visits to others leave what is aside of a as it was
-pub aside_unvisited : (R : Rules) (t : ℕ) (r : Request) (a : ℕ) (ds : List Entry) → All (λ e. (aref_of e ≡ r.aref → ⊥) × (a ≡ aref_of e → ⊥)) ds → (ls : List Line) → NeverBelowZero ls →
+pub aside_unvisited : (R : Rules) (t : ℕ) (r : Request) (a : ℕ) (ds : List Entry) → AllByRecursion (λ e. (aref_of e ≡ r.aref → ⊥) × (a ≡ aref_of e → ⊥)) ds → (ls : List Line) → NeverBelowZero ls →
     (k : ℕ) → balance (visits (giving R t r) ds ls) (aside a r.aref) k ≡ balance ls (aside a r.aref) k
 unfolding visits
 aside_unvisited R t r a [] h ls fine k = refl

@@ -1,6 +1,6 @@
 -- Visits one after another: what holds after the first j of them, and after all.
 use Rattle.std.proofs.Common.{◌≡◌, ℕ, ◌+◌, ◌<◌, ◌≤◌, Bool, true, false, cond, List, [], ◌∷◌, ◌++◌, length, get_or, take, drop, sym, refl, ap, ◌∙◌, subst, arith}
-use Rattle.std.specs.List.{AllByRecursion as All}
+use Rattle.std.specs.List.{AllByRecursion}
 use Rattle.std.proofs.lemmas.List.{take_more, take-append-drop, take_all}
 use Rattle.terms.specs.declared.request.Request.{Request}
 use Rattle.terms.specs.Words.{is_pending}
@@ -61,20 +61,20 @@ module _ (f : Entry → List Line → List Line) where
     visits_fit ds j ls = omega (arith, visits_grow (drop j ds) (visits f (take j ds) ls), ap length (visits_rest ds j ls))
 
   module _ (r : Request) (P : Entry → Type 0) (one : (d : Entry) → P d → (ls : List Line) → NeverBelowZero ls → Later r ls (f d ls)) where
-    pub visits_later : (ds : List Entry) → All P ds → (ls : List Line) → NeverBelowZero ls → Later r ls (visits f ds ls)
+    pub visits_later : (ds : List Entry) → AllByRecursion P ds → (ls : List Line) → NeverBelowZero ls → Later r ls (visits f ds ls)
     unfolding visits
     visits_later [] a ls h = later_refl r ls h
     visits_later (d ∷ ds) a ls h = let L = one d a.0 ls h in later_trans r ls (f d ls) _ L (visits_later ds a.1 (f d ls) L.solvent)
 
-  all_taken : (P : Entry → Type 0) (ds : List Entry) (j : ℕ) → All P ds → All P (take j ds)
-  all_taken P ds j a = first (take j ds) (drop j ds) (subst (All P) (sym (take-append-drop j ds)) a)
+  all_taken : (P : Entry → Type 0) (ds : List Entry) (j : ℕ) → AllByRecursion P ds → AllByRecursion P (take j ds)
+  all_taken P ds j a = first (take j ds) (drop j ds) (subst (AllByRecursion P) (sym (take-append-drop j ds)) a)
     where
-      first : (xs ys : List Entry) → All P (xs ++ ys) → All P xs
+      first : (xs ys : List Entry) → AllByRecursion P (xs ++ ys) → AllByRecursion P xs
       first [] ys h = tt
       first (x ∷ xs) ys h = (h.0, first xs ys h.1)
 
   pub visits_later_at : (r : Request) (P : Entry → Type 0) → ((d : Entry) → P d → (ls : List Line) → NeverBelowZero ls → Later r ls (f d ls)) →
-      (ds : List Entry) (j : ℕ) → All P ds → (ls : List Line) → NeverBelowZero ls → Later r ls (visits f (take j ds) ls)
+      (ds : List Entry) (j : ℕ) → AllByRecursion P ds → (ls : List Line) → NeverBelowZero ls → Later r ls (visits f (take j ds) ls)
   visits_later_at r P one ds j a ls h = visits_later r P one (take j ds) (all_taken P ds j a) ls h
 
 -- postings by day never shorten the journal

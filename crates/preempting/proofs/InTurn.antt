@@ -1,6 +1,6 @@
 -- The next defender on the shelf, when those before it were visited: it stands ready where it stood.
 use Rattle.std.proofs.Common.{◌≡◌, ℕ, ◌+◌, ◌<◌, ◌≤◌, Bool, true, false, cond, List, [], ◌∷◌, map, length, get_or, take, Some, sym, refl, ap, ◌∙◌, subst, arith}
-use Rattle.std.specs.List.{AllByRecursion as All, slice_get}
+use Rattle.std.specs.List.{AllByRecursion, slice_get}
 use Rattle.std.proofs.lemmas.List.{length-map, get_or-map}
 use Rattle.terms.specs.declared.request.Request.{Request}
 use Rattle.shelf.specs.declared.defender.Defender.{Defender}
@@ -47,6 +47,6 @@ module _ (d : Desk) (r : Request) (xs : List Defender) (ready : AllReady r d xs)
         (ready_later r (view d) (view e) (entry_at (view d).places x.place) own_ready.1 (ap (λ (w : View). w.days) V) (subst (Later r (view d).lines) (sym (ap (λ (w : View). w.lines) V)) L))
 
 -- of all that stand ready, none is the challenger's
-pub all_others : (d : Desk) (r : Request) (xs : List Defender) → AllReady r d xs → All (λ e. aref_of e ≡ r.aref → ⊥) (lined (view d).places xs)
+pub all_others : (d : Desk) (r : Request) (xs : List Defender) → AllReady r d xs → AllByRecursion (λ e. aref_of e ≡ r.aref → ⊥) (lined (view d).places xs)
 all_others d r [] a = tt
 all_others d r (x ∷ xs) a = (a.0.1.other, all_others d r xs a.1)

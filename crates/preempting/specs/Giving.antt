@@ -1,6 +1,6 @@
 -- What confirmed defenders give: on each day the lesser of what they hold and what is short.
 use Rattle.std.specs.Prelude.{◌≡◌, ℕ, ◌+◌, ◌<◌, ◌≤◌, min, Bool, true, false, cond, List, [], ◌∷◌, map, length, set, Some, None, Option, ◌≢◌, slice_set}
-use Rattle.std.specs.List.{AllByRecursion as All}
+use Rattle.std.specs.List.{AllByRecursion}
 use Rattle.terms.specs.declared.request.Request.{Request}
 use Rattle.terms.specs.declared.words.State.TheVariants.{Challenged}
 use Rattle.terms.specs.Days.{Days}
@@ -91,11 +91,11 @@ given_view R minute r v ls = record { days = v.days; room = v.room; lines = ls; 
 -- no two of the records have one AREF
 abbrev pub Apart : List Entry → Type 0
 Apart [] = Unit {0}
-Apart (e ∷ es) = All (λ x. aref_of e ≢ aref_of x) es × Apart es
+Apart (e ∷ es) = AllByRecursion (λ x. aref_of e ≢ aref_of x) es × Apart es
 
 -- what is asked of the defenders on a shelf before they give: each stands ready and defends, and no two are one
 pub record LinedToGive (R : Rules) (minute : ℕ) (r : Request) (d : Desk) (xs : List Defender) : Type 0 where
   pub ready : AllReady r d xs
-  pub defend : All (λ x. defends R minute r (view d).days (entry_at (view d).places x.place) ≡ true) xs
+  pub defend : AllByRecursion (λ x. defends R minute r (view d).days (entry_at (view d).places x.place) ≡ true) xs
   pub apart : Apart (lined (view d).places xs)
   pub none_aside_yet : (a day : ℕ) → balance (view d).lines (aside a r.aref) day ≡ 0

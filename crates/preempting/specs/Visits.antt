@@ -1,6 +1,6 @@
 -- A preemption under way: what is known of a defender when it is visited, and of what is still short.
 use Rattle.std.specs.Prelude.{◌≡◌, ℕ, ◌+◌, ◌<◌, ◌≤◌, true, cond, List, length, slice_index}
-use Rattle.std.specs.List.{AllByRecursion as All}
+use Rattle.std.specs.List.{AllByRecursion}
 use Rattle.terms.specs.declared.request.Request.{Request}
 use Rattle.terms.specs.Words.{is_pending}
 use Rattle.sheets.specs.Rules.{Rules}
@@ -38,4 +38,4 @@ giving R minute r d ls = cond (is_pending d.standing.state) ls (give R minute r 
 
 -- the defenders on a shelf stand ready in their places
 abbrev pub AllReady : Request → Desk → List Defender → Type 0
-AllReady r d xs = All (λ x. (x.place < length d.places.now) × StandsReady r (view d) (entry_at (view d).places x.place)) xs
+AllReady r d xs = AllByRecursion (λ x. (x.place < length d.places.now) × StandsReady r (view d) (entry_at (view d).places x.place)) xs

@@ -2,7 +2,7 @@
 ghost use Rattle.std.specs.Prelude.{◌≡◌, ◌+◌, ◌<◌, ◌≤◌, min, length, take, sum};
 ghost use Rattle.desk.specs.Desks.{view};
 ghost use Rattle.law.specs.Posting.{holding};
-ghost use Rattle.law.specs.Preemption.{short as short·on};
+ghost use Rattle.law.specs.Preemption.{short as short_there};
 ghost use Rattle.moving.specs.Midway.{Midway};
 ghost use Rattle.posting.specs.Postable.{with_lines};
 ghost use Rattle.preempting.specs.Giving.{Giveable, given_kind, given_on, taker_side};

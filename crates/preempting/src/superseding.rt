@@ -6,7 +6,7 @@ ghost use Rattle.shelf.specs.Contents.{contents};
 ghost use Rattle.desk.specs.Desks.{view};
 ghost use Rattle.moving.specs.Midway.{Midway};
 ghost use Rattle.posting.specs.Postable.{with_lines};
-ghost use Rattle.preempting.specs.Visits.{StandsReady, ShortShown, AllReady, superseding as superseding·lines};
+ghost use Rattle.preempting.specs.Visits.{StandsReady, ShortShown, AllReady, superseding as superseding_lines};
 
 use defending::shortage::visit;
 use desk::memory::Desk;
@@ -31,10 +31,10 @@ pub fn supersede_if_needed(
     requires short { ShortShown request.now (view desk.old).lines short.old }
     requires month { request.now.length ≤ 31 }
     requires inside { request.now.start + request.now.length ≤ 400 }
-    requires roomy { length (superseding·lines minute request.now (entry_at (view desk.old).places place) (view desk.old).lines) ≤ (view desk.old).room }
+    requires roomy { length (superseding_lines minute request.now (entry_at (view desk.old).places place) (view desk.old).lines) ≤ (view desk.old).room }
     ensures midway { Midway desk.new }
-    ensures view { view desk.new ≡ with_lines (view desk.old) (superseding·lines minute request.now (entry_at (view desk.old).places place) (view desk.old).lines) }
-    ensures short { ShortShown request.now (superseding·lines minute request.now (entry_at (view desk.old).places place) (view desk.old).lines) short.new }
+    ensures view { view desk.new ≡ with_lines (view desk.old) (superseding_lines minute request.now (entry_at (view desk.old).places place) (view desk.old).lines) }
+    ensures short { ShortShown request.now (superseding_lines minute request.now (entry_at (view desk.old).places place) (view desk.old).lines) short.new }
 {
     let one = desk.places[place];
     if !one.standing.state.is_pending() {

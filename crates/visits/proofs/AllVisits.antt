@@ -1,7 +1,7 @@
 -- All visits: the pending defenders in turn, the grants by day and the confirmed defenders in turn write the lines of the
 -- closed form.
 use Rattle.std.proofs.Common.{◌≡◌, ℕ, ◌+◌, ◌-◌, ◌<◌, ◌≤◌, min, true, false, cond, not, ◌&&◌, ◌||◌, eqb, ◌⊎◌, List, [], ◌∷◌, ◌++◌, sym, refl, ap, ◌∙◌, subst, inl, inr, arith}
-use Rattle.std.specs.List.{AllByRecursion as All}
+use Rattle.std.specs.List.{AllByRecursion}
 use Rattle.std.proofs.lemmas.List.{append_assoc, append-nil}
 use Rattle.std.proofs.lemmas.Bool.{ne_eqb}
 use Rattle.terms.specs.declared.request.Request.{Request}
@@ -34,15 +34,15 @@ module _ (r : Request) (ls : List Line) where
   pub record Visited (earlier rest : List Entry) (ms : List Line) : Type 0 where
     pub solvent : NeverBelowZero ms
     pub met : (k : ℕ) → short r k ms ≡ shortage_met r ls earlier k
-    pub keeps : All (λ e. (k : ℕ) → holding ms (aref_of e) k ≡ holding ls (aref_of e) k) rest
+    pub keeps : AllByRecursion (λ e. (k : ℕ) → holding ms (aref_of e) k ≡ holding ls (aref_of e) k) rest
 
-  keeps_next : (d : Entry) (ms ns : List Line) → Effect r ls d ms ns → (rest : List Entry) → All (λ e. aref_of d ≡ aref_of e → ⊥) rest → All Faces rest →
-      All (λ e. (k : ℕ) → holding ms (aref_of e) k ≡ holding ls (aref_of e) k) rest → All (λ e. (k : ℕ) → holding ns (aref_of e) k ≡ holding ls (aref_of e) k) rest
+  keeps_next : (d : Entry) (ms ns : List Line) → Effect r ls d ms ns → (rest : List Entry) → AllByRecursion (λ e. aref_of d ≡ aref_of e → ⊥) rest → AllByRecursion Faces rest →
+      AllByRecursion (λ e. (k : ℕ) → holding ms (aref_of e) k ≡ holding ls (aref_of e) k) rest → AllByRecursion (λ e. (k : ℕ) → holding ns (aref_of e) k ≡ holding ls (aref_of e) k) rest
   keeps_next d ms ns E [] o f h = tt
   keeps_next d ms ns E (e ∷ rest) o f h = ((λ k. E.others (aref_of e) k (λ q. o.0 (sym q)) f.0.0 ∙ h.0 k), keeps_next d ms ns E rest o.1 f.1 h.1)
 
   pub visited_next : (earlier : List Entry) (d : Entry) (rest : List Entry) (ms ns : List Line) → Visited earlier (d ∷ rest) ms → Effect r ls d ms ns →
-      All (λ e. aref_of d ≡ aref_of e → ⊥) rest → All Faces rest → Visited (earlier ++ d ∷ []) rest ns
+      AllByRecursion (λ e. aref_of d ≡ aref_of e → ⊥) rest → AllByRecursion Faces rest → Visited (earlier ++ d ∷ []) rest ns
   visited_next earlier d rest ms ns V E o f = record {
     solvent = E.solvent;
     met = λ k. E.less_short k ∙ (ap (λ i. i - holding ls (aref_of d) k) (V.met k) ∙ sym (shortage_met_push r ls earlier d k));
@@ -57,17 +57,17 @@ module _ (r : Request) (ls : List Line) where
       same k = ap (λ i. eqb i 0 || eqb (short r k ms) 0) (V.keeps.0 k) ∙ ap (λ i. eqb (holding ls (aref_of d) k) 0 || eqb i 0) (V.met k)
 
   -- no confirmed defender is superseded
-  supersede_all_none : (t : ℕ) (cs : List Entry) → All NotPending cs → (ms : List Line) → supersede_all t r cs ms ≡ ms
+  supersede_all_none : (t : ℕ) (cs : List Entry) → AllByRecursion NotPending cs → (ms : List Line) → supersede_all t r cs ms ≡ ms
   unfolding supersede_all
   supersede_all_none t [] h ms = refl
   supersede_all_none t (d ∷ cs) h ms = rw h.0 (supersede_all_none t cs h.1 ms)
 
-  superseded_lines_none : (t : ℕ) (earlier cs : List Entry) → All NotPending cs → superseded_lines t r ls earlier cs ≡ []
+  superseded_lines_none : (t : ℕ) (earlier cs : List Entry) → AllByRecursion NotPending cs → superseded_lines t r ls earlier cs ≡ []
   unfolding superseded_lines
   superseded_lines_none t earlier [] h = refl
   superseded_lines_none t earlier (d ∷ cs) h = rw h.0 (superseded_lines_none t (earlier ++ d ∷ []) cs h.1)
 
-  superseded_on_none : (earlier cs : List Entry) → All NotPending cs → (k : ℕ) → superseded_on r ls earlier cs k ≡ 0
+  superseded_on_none : (earlier cs : List Entry) → AllByRecursion NotPending cs → (k : ℕ) → superseded_on r ls earlier cs k ≡ 0
   unfolding superseded_on
   superseded_on_none earlier [] h k = refl
   superseded_on_none earlier (d ∷ cs) h k = rw h.0 (omega (arith, superseded_on_none (earlier ++ d ∷ []) cs h.1 k))
@@ -78,7 +78,7 @@ module _ (r : Request) (ls : List Line) where
     pub frees : (k : ℕ) → free_on ns k ≡ free_on ms k + superseded_on r ls earlier (ps ++ cs) k
 
   -- the pending defenders in turn
-  pub supersede_all_visits : (t : ℕ) (earlier ps cs : List Entry) (ms : List Line) → All Pending ps → All NotPending cs → Different (ps ++ cs) → All Faces (ps ++ cs) → Visited earlier (ps ++ cs) ms →
+  pub supersede_all_visits : (t : ℕ) (earlier ps cs : List Entry) (ms : List Line) → AllByRecursion Pending ps → AllByRecursion NotPending cs → Different (ps ++ cs) → AllByRecursion Faces (ps ++ cs) → Visited earlier (ps ++ cs) ms →
       SupersededAll t earlier ps cs ms (supersede_all t r (ps ++ cs) ms)
   unfolding supersede_all superseded_lines superseded_on
   supersede_all_visits t earlier [] cs ms p n D F V = subst (SupersededAll t earlier [] cs ms) (sym (supersede_all_none t cs n ms)) (record {
@@ -123,7 +123,7 @@ module _ (r : Request) (ls : List Line) where
           sums x y z u w s a b c = omega arith
 
   -- the grants by day: free and what was taken stay together what they were
-  pub grants_visit : (t : ℕ) (earlier rest : List Entry) (ms : List Line) (now_free : ℕ → ℕ) → ((k : ℕ) → free_on ms k ≡ now_free k) → All Faces rest → Visited earlier rest ms →
+  pub grants_visit : (t : ℕ) (earlier rest : List Entry) (ms : List Line) (now_free : ℕ → ℕ) → ((k : ℕ) → free_on ms k ≡ now_free k) → AllByRecursion Faces rest → Visited earlier rest ms →
       (by_day (grant t r) r.start r.length ms ≡ ms ++ lines_by_day t Granted 0 r.aref (λ day. min (now_free day) (wanted r day)) r.start r.length)
       × Visited earlier rest (by_day (grant t r) r.start r.length ms)
   grants_visit t earlier rest ms now_free f F V = done (days_move t Granted 0 r.aref (omega arith) (λ k ns. min (free_on ns k) (wanted r k)) (λ day. min (now_free day) (wanted r day)) r.start r.length ms V.solvent
@@ -144,24 +144,24 @@ module _ (r : Request) (ls : List Line) where
           same_holding a k ne (inl w) = let z = m.moves k w.0 w.1 (held a) (omega arith) in let z' = rw (ne_eqb a r.aref ne) at z in omega arith
           same_holding a k ne (inr o) = (m.elsewhen k o).stands (held a) (omega arith)
 
-          kept : (es : List Entry) → All Faces es → All (λ e. (k : ℕ) → holding ms (aref_of e) k ≡ holding ls (aref_of e) k) es → All (λ e. (k : ℕ) → holding ns (aref_of e) k ≡ holding ls (aref_of e) k) es
+          kept : (es : List Entry) → AllByRecursion Faces es → AllByRecursion (λ e. (k : ℕ) → holding ms (aref_of e) k ≡ holding ls (aref_of e) k) es → AllByRecursion (λ e. (k : ℕ) → holding ns (aref_of e) k ≡ holding ls (aref_of e) k) es
           kept [] u h = tt
           kept (e ∷ es) u h = ((λ k. same_holding (aref_of e) k u.0.0 (term_cases r.start r.length k) ∙ h.0 k), kept es u.1 h.1)
 
   module _ (R : Rules) (t : ℕ) where
     -- pending defenders give nothing more
-    pub give_all_skips : (ps cs : List Entry) → All Pending ps → (ms : List Line) → give_all R t r (ps ++ cs) ms ≡ give_all R t r cs ms
+    pub give_all_skips : (ps cs : List Entry) → AllByRecursion Pending ps → (ms : List Line) → give_all R t r (ps ++ cs) ms ≡ give_all R t r cs ms
     unfolding give_all
     give_all_skips [] cs p ms = refl
     give_all_skips (d ∷ ps) cs p ms = ap (λ c. give_all R t r (ps ++ cs) (cond c ms (give R t r d ms))) p.0 ∙ give_all_skips ps cs p.1 ms
 
-    pub given_lines_skips : (earlier ps cs : List Entry) → All Pending ps → given_lines R t r ls earlier (ps ++ cs) ≡ given_lines R t r ls (earlier ++ ps) cs
+    pub given_lines_skips : (earlier ps cs : List Entry) → AllByRecursion Pending ps → given_lines R t r ls earlier (ps ++ cs) ≡ given_lines R t r ls (earlier ++ ps) cs
     unfolding given_lines
     given_lines_skips earlier [] cs p = ap (λ x. given_lines R t r ls x cs) (sym (append-nil earlier))
     given_lines_skips earlier (d ∷ ps) cs p = rw p.0 (given_lines_skips (earlier ++ d ∷ []) ps cs p.1 ∙ ap (λ x. given_lines R t r ls x cs) (append_assoc earlier (d ∷ []) ps))
 
     -- the confirmed defenders in turn
-    pub give_all_visits : (earlier cs : List Entry) (ms : List Line) → All NotPending cs → Different cs → All Faces cs → Visited earlier cs ms → give_all R t r cs ms ≡ ms ++ given_lines R t r ls earlier cs
+    pub give_all_visits : (earlier cs : List Entry) (ms : List Line) → AllByRecursion NotPending cs → Different cs → AllByRecursion Faces cs → Visited earlier cs ms → give_all R t r cs ms ≡ ms ++ given_lines R t r ls earlier cs
     unfolding give_all given_lines
     give_all_visits earlier [] ms n D F V = sym (append-nil ms)
     give_all_visits earlier (d ∷ cs) ms n D F V =

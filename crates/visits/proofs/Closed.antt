@@ -1,6 +1,6 @@
 -- A preemption writes the lines of the closed form, on every book that checked calls lead to.
 use Rattle.std.proofs.Common.{◌≡◌, ℕ, suc, ◌+◌, ◌-◌, ◌<◌, ◌≤◌, Bool, true, false, cond, ◌&&◌, ◌||◌, ltb, leb, List, [], ◌∷◌, ◌++◌, filter, sym, refl, ap, ◌∙◌, subst, arith}
-use Rattle.std.specs.List.{AllByRecursion as All}
+use Rattle.std.specs.List.{AllByRecursion}
 use Rattle.std.proofs.ByRecursion.{All-weaker}
 use Rattle.std.proofs.lemmas.List.{append_assoc}
 use Rattle.std.proofs.lemmas.Bool.{ne_eqb, and_parts}
@@ -29,7 +29,7 @@ use Rattle.visits.proofs.AllVisits.{Pending, NotPending, Faces, Visited, superse
 use Rattle.visits.proofs.Defenders.{Defends, different_in_turn, Split, pending_come_first}
 
 -- nothing was ever taken for an AREF above those that the lines name
-pub none_taken_yet : (n b k : ℕ) (ls : List Line) → n ≤ b → All (λ l. (l.a < n) × (l.b < n)) ls → taken b k ls ≡ 0
+pub none_taken_yet : (n b k : ℕ) (ls : List Line) → n ≤ b → AllByRecursion (λ l. (l.a < n) × (l.b < n)) ls → taken b k ls ≡ 0
 unfolding taken
 none_taken_yet n b k [] up h = refl
 none_taken_yet n b k (l ∷ ls) up h =
@@ -50,11 +50,11 @@ module _ (R : Rules) (t : ℕ) (r : Request) (ls : List Line) (fine : NeverBelow
     keeps = all_same ds;
   }
     where
-      all_same : (es : List Entry) → All (λ e. (k : ℕ) → holding ls (aref_of e) k ≡ holding ls (aref_of e) k) es
+      all_same : (es : List Entry) → AllByRecursion (λ e. (k : ℕ) → holding ls (aref_of e) k ≡ holding ls (aref_of e) k) es
       all_same [] = tt
       all_same (e ∷ es) = ((λ k. refl), all_same es)
 
-  second : (P : Entry → Type 0) (ps cs : List Entry) → All P (ps ++ cs) → All P cs
+  second : (P : Entry → Type 0) (ps cs : List Entry) → AllByRecursion P (ps ++ cs) → AllByRecursion P cs
   second P [] cs h = h
   second P (p ∷ ps) cs h = second P ps cs h.1
 
@@ -62,7 +62,7 @@ module _ (R : Rules) (t : ℕ) (r : Request) (ls : List Line) (fine : NeverBelow
   second_different [] cs h = h
   second_different (p ∷ ps) cs h = second_different ps cs h.1
 
-  pub visits_closed : (ps cs : List Entry) → All Pending ps → All NotPending cs → Different (ps ++ cs) → All (Faces r ls) (ps ++ cs) →
+  pub visits_closed : (ps cs : List Entry) → AllByRecursion Pending ps → AllByRecursion NotPending cs → Different (ps ++ cs) → AllByRecursion (Faces r ls) (ps ++ cs) →
       give_all R t r (ps ++ cs) (by_day (grant t r) r.start r.length (supersede_all t r (ps ++ cs) ls))
       ≡ ls ++ (superseded_lines t r ls [] (ps ++ cs) ++ (lines_by_day t Granted 0 r.aref (granted_on r ls (ps ++ cs)) r.start r.length ++ given_lines R t r ls [] (ps ++ cs)))
   visits_closed ps cs p n D F =
@@ -79,7 +79,7 @@ module _ (R : Rules) (t : ℕ) (r : Request) (ls : List Line) (fine : NeverBelow
       e₁ ∙ (ap (λ x. x ++ gv) (G.0 ∙ ap (λ x. x ++ gl) S.writes) ∙ (append_assoc (ls ++ sl) gl gv ∙ append_assoc ls sl (gl ++ gv)))
 
 -- of a book that is right
-pub preempts_in_closed_form : (R : Rules) → Lawful R → (p : ℕ → ℕ) (v : View) → Right p v → All (Termed v.days) v.places → (t : ℕ) (r : Request) → v.top < r.aref →
+pub preempts_in_closed_form : (R : Rules) → Lawful R → (p : ℕ → ℕ) (v : View) → Right p v → AllByRecursion (Termed v.days) v.places → (t : ℕ) (r : Request) → v.top < r.aref →
     preempt R t r v ≡ v.lines ++ preemption_lines R t r v
 preempts_in_closed_form R L p v I terms t r up = go (pending_come_first R L (defenders R t r v) all_defend sorted apart)
   where
@@ -89,23 +89,23 @@ preempts_in_closed_form R L p v I terms t r up = go (pending_come_first R L (def
     apart : Different (defenders R t r v)
     apart = different_in_turn R (filter (defends R t r v.days) v.places) kept_apart
 
-    possible : All (λ e. Possible e.standing.request) (filter (defends R t r v.days) v.places)
+    possible : AllByRecursion (λ e. Possible e.standing.request) (filter (defends R t r v.days) v.places)
     possible = living_possible v.days (defends R t r v.days) (λ x h. defends_lives R t r v x h) v.places terms
 
     sorted : Sorted R (defenders R t r v)
     sorted = sorted_in_turn R L (filter (defends R t r v.days) v.places) kept_apart possible
 
-    stand : All (λ d. (find (aref_of d) v.places ≡ d) × (defends R t r v.days d ≡ true) × (r.aref ≡ aref_of d → ⊥)) (defenders R t r v)
+    stand : AllByRecursion (λ d. (find (aref_of d) v.places ≡ d) × (defends R t r v.days d ≡ true) × (r.aref ≡ aref_of d → ⊥)) (defenders R t r v)
     stand = defenders_stand R v I.whole I.sound.low t r up
 
-    both : (es : List Entry) → All (λ e. Possible e.standing.request) es → All (λ d. (find (aref_of d) v.places ≡ d) × (defends R t r v.days d ≡ true) × (r.aref ≡ aref_of d → ⊥)) es → All Defends es
+    both : (es : List Entry) → AllByRecursion (λ e. Possible e.standing.request) es → AllByRecursion (λ d. (find (aref_of d) v.places ≡ d) × (defends R t r v.days d ≡ true) × (r.aref ≡ aref_of d → ⊥)) es → AllByRecursion Defends es
     both [] a b = tt
     both (e ∷ es) a b = ((a.0, (and_parts (is_pending e.standing.state || is_confirmed e.standing.state) _ b.0.1).0), both es a.1 b.1)
 
-    all_defend : All Defends (defenders R t r v)
+    all_defend : AllByRecursion Defends (defenders R t r v)
     all_defend = both (defenders R t r v) (all_in_turn (λ e. Possible e.standing.request) R _ possible) stand
 
-    faces : All (Faces r v.lines) (defenders R t r v)
+    faces : AllByRecursion (Faces r v.lines) (defenders R t r v)
     faces = All-weaker _ _ (λ d h. ((λ (q : aref_of d ≡ r.aref). h.2 (sym q)), (λ k q. let w = subst (λ e. Holding e k) h.0 (I.whole.supp.holds (aref_of d) k q) in (w.1, w.2)))) (defenders R t r v) stand
 
     none : (k : ℕ) → taken r.aref k v.lines ≡ 0
@@ -114,7 +114,7 @@ preempts_in_closed_form R L p v I terms t r up = go (pending_come_first R L (def
     go : Split R L (defenders R t r v) → preempt R t r v ≡ v.lines ++ preemption_lines R t r v
     go S = subst (λ ds. give_all R t r ds (by_day (grant t r) r.start r.length (supersede_all t r ds v.lines))
         ≡ v.lines ++ (superseded_lines t r v.lines [] ds ++ (lines_by_day t Granted 0 r.aref (granted_on r v.lines ds) r.start r.length ++ given_lines R t r v.lines [] ds))) (sym S.whole)
-        (visits_closed R t r v.lines I.sound.fine.solvent none S.ps S.cs S.first S.then (subst Different S.whole apart) (subst (All (Faces r v.lines)) S.whole faces))
+        (visits_closed R t r v.lines I.sound.fine.solvent none S.ps S.cs S.first S.then (subst Different S.whole apart) (subst (AllByRecursion (Faces r v.lines)) S.whole faces))
 
 pub closed_form : ClosedForm
 closed_form R L days places room calls t r checked up =

@@ -1,6 +1,6 @@
 -- The defenders of a book: no two have one AREF, and the pending ones come before the confirmed ones in turn.
 use Rattle.std.proofs.Common.{◌≡◌, Bool, true, false, cond, ◌||◌, ◌⊎◌, List, [], ◌∷◌, ◌++◌, sym, refl, ap, ◌∙◌, inl, inr}
-use Rattle.std.specs.List.{AllByRecursion as All}
+use Rattle.std.specs.List.{AllByRecursion}
 use Rattle.std.proofs.lemmas.Bool.{cases_Bool, false≢true, or_cases, not_from_true}
 use Rattle.terms.specs.declared.words.State.{State}
 use Rattle.terms.specs.declared.words.State.TheVariants.{Confirmed, Accepted, Offered, Competing, Challenged, Gone}
@@ -15,7 +15,7 @@ use Rattle.law.proofs.DefendersInTurn.{Sorted, Different}
 use Rattle.visits.proofs.AllVisits.{Pending, NotPending}
 
 -- putting one of another AREF among them
-different_put : (before : Entry → Entry → Bool) (d : Entry) (es : List Entry) → All (λ e. aref_of d ≡ aref_of e → ⊥) es → Different es → Different (put before es d)
+different_put : (before : Entry → Entry → Bool) (d : Entry) (es : List Entry) → AllByRecursion (λ e. aref_of d ≡ aref_of e → ⊥) es → Different es → Different (put before es d)
 different_put before d [] n D = (tt, tt)
 different_put before d (e ∷ es) n D = go (different_put before d es n.1 D.1) (before e d)
   where
@@ -42,7 +42,7 @@ confirmed_is Gone q = absurd (false≢true q)
 
 module _ (R : Rules) (L : Lawful R) where
   -- nobody pending comes after one that is not
-  none_pending_after : (d : Entry) → Defends d → NotPending d → (es : List Entry) → All Defends es → All (λ e. gives_before R d e ≡ true) es → All (λ e. aref_of d ≡ aref_of e → ⊥) es → All NotPending es
+  none_pending_after : (d : Entry) → Defends d → NotPending d → (es : List Entry) → AllByRecursion Defends es → AllByRecursion (λ e. gives_before R d e ≡ true) es → AllByRecursion (λ e. aref_of d ≡ aref_of e → ⊥) es → AllByRecursion NotPending es
   none_pending_after d p n [] a s o = tt
   none_pending_after d p n (e ∷ es) a s o = (go (cases_Bool (is_pending e.standing.state)), none_pending_after d p n es a.1 s.1 o.1)
     where
@@ -62,10 +62,10 @@ module _ (R : Rules) (L : Lawful R) where
     pub ps : List Entry
     pub cs : List Entry
     pub whole : ds ≡ ps ++ cs
-    pub first : All Pending ps
-    pub then : All NotPending cs
+    pub first : AllByRecursion Pending ps
+    pub then : AllByRecursion NotPending cs
 
-  pub pending_come_first : (ds : List Entry) → All Defends ds → Sorted R ds → Different ds → Split ds
+  pub pending_come_first : (ds : List Entry) → AllByRecursion Defends ds → Sorted R ds → Different ds → Split ds
   pending_come_first [] a s o = record { ps = []; cs = []; whole = refl; first = tt; then = tt }
   pending_come_first (d ∷ ds) a s o = go (pending_come_first ds a.1 s.1 o.1) (cases_Bool (is_pending d.standing.state))
     where

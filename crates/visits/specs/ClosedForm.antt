@@ -1,7 +1,7 @@
 -- Preemption in closed form: what each defender gives and what the challenger is granted, told from the lines before the
 -- submit and the order of turn alone.
 use Rattle.std.specs.Prelude.{◌≡◌, ℕ, zero, suc, ◌+◌, ◌-◌, ◌<◌, min, Bool, cond, not, ◌&&◌, ◌||◌, List, [], ◌∷◌, ◌++◌, ◌==◌, nat_le, nat_lt}
-use Rattle.std.specs.List.{AllByRecursion as All}
+use Rattle.std.specs.List.{AllByRecursion}
 use Rattle.terms.specs.declared.request.Request.{Request}
 use Rattle.terms.specs.Days.{Days}
 use Rattle.terms.specs.Words.{is_pending}
@@ -79,6 +79,6 @@ preemption_lines R minute r v =
 -- on every book that checked calls lead to, under every lawful sheet, a request with a new AREF preempts by these lines
 abbrev pub ClosedForm : Type 0
 ClosedForm = (R : Rules) → Lawful R → (days : Days) (places room : ℕ) (calls : List Call) (minute : ℕ) (r : Request) →
-    All IsChecked calls →
+    AllByRecursion IsChecked calls →
     let v = run R calls (opened days places room) in
     v.top < r.aref → preempt R minute r v ≡ v.lines ++ preemption_lines R minute r v

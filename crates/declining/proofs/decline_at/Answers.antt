@@ -1,5 +1,5 @@
 use Rattle.std.proofs.Common.{◌≡◌, ℕ, ◌+◌, ◌*◌, true, length, get_or, set, sym, refl, ap, ◌∙◌, subst, arith}
-use Rattle.std.specs.List.{AllByRecursion as All}
+use Rattle.std.specs.List.{AllByRecursion}
 use Rattle.std.proofs.lemmas.List.{length-map}
 use Rattle.law.specs.View.{View, nobody, living}
 use Rattle.law.specs.Keeps.{Termed}
@@ -69,7 +69,7 @@ close_if_last-requires g c =
     let V = c.restate.ensures.view ∙ ap (λ (w : View). with_places w (set w.places i (due_at due (in_state c.left_as-state.result (get_or w.places i nobody))))) c.lose.ensures.view in
     record {
       midway = c.restate.ensures.midway;
-      terms = subst (λ (w : View). All (Termed w.days) w.places) (sym V) (terms_after d p.sound i p.within p.lives c.args.minute c.left_as-state.result);
+      terms = subst (λ (w : View). AllByRecursion (Termed w.days) w.places) (sym V) (terms_after d p.sound i p.within p.lives c.args.minute c.left_as-state.result);
       early = p.early;
     }
 

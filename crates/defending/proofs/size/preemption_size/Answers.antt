@@ -47,13 +47,13 @@ count_visit-lines-requires c = record {
 }
 
 -- at most 128 defenders stand on the shelf
-few_entries : (d : Desk) → Sound d → (xs : List Defender) → length xs ≤ length d.places.now → length xs ≤ 128
-few_entries d S xs h = omega (arith, S.kept.few-places, length-map d.places.now entry_of)
+few_entries : (d : Desk) → length d.places.now ≤ 128 → (xs : List Defender) → length xs ≤ length d.places.now → length xs ≤ 128
+few_entries d few xs h = omega arith
 
 pub overflow_add-lines : goal.overflow_add-lines
 overflow_add-lines c =
     let own = few_days c.args.desk.now c.requires.sound (contents c.args.shelf.now) c.requires.there c.loop-j.j (omega (arith, c.loop-j-test.true, c.len-j-end.ensures)) c.in-Some.next c.in-Some.ensures unread in
-    omega (arith, c.count_visit-lines.ensures.lines, few_written (get_or c.args.desk.now.places.now c.in-Some.next.place unread) c.args.request.now c.loop-j.short own c.requires.term, c.loop-j.invariant.2, c.loop-j-test.true, c.len-j-end.ensures, few_entries c.args.desk.now c.requires.sound (contents c.args.shelf.now) c.requires.few)
+    omega (arith, c.count_visit-lines.ensures.lines, few_written (get_or c.args.desk.now.places.now c.in-Some.next.place unread) c.args.request.now c.loop-j.short own c.requires.term, c.loop-j.invariant.2, c.loop-j-test.true, c.len-j-end.ensures, few_entries c.args.desk.now c.requires.few_places (contents c.args.shelf.now) c.requires.few)
 
 pub loop-j-preserved : goal.loop-j-preserved
 loop-j-preserved c =
@@ -66,7 +66,7 @@ loop-j-preserved c =
           let few = few_written (get_or d.places.now w.in-Some.next.place unread) r c.loop-j.short own c.requires.term in
           let next = counted_next d c.requires.sound xs c.requires.there c.loop-j.j here w.in-Some.next w.in-Some.ensures unread r c.loop-j.short c.loop-j.granted c.loop-j.lines c.loop-j.invariant.3
           w.count_visit-lines.new.short w.count_visit-lines.new.granted w.count_visit-lines.result w.count_visit-lines.ensures.taken w.count_visit-lines.ensures.granted w.count_visit-lines.ensures.lines in
-          rw (w.short_is, w.granted-is, w.lines-is) (w.count_visit-lines.auto.short ∙ c.loop-j.invariant.0, w.count_visit-lines.auto.granted ∙ c.loop-j.invariant.1, omega (arith, w.count_visit-lines.ensures.lines, few, c.loop-j.invariant.2), next)
+          rw (w.short-is, w.granted-is, w.lines-is) (w.count_visit-lines.auto.short ∙ c.loop-j.invariant.0, w.count_visit-lines.auto.granted ∙ c.loop-j.invariant.1, omega (arith, w.count_visit-lines.ensures.lines, few, c.loop-j.invariant.2), next)
       | in_default w ↦ absurd (never_none xs c.loop-j.j here w.in_default.ensures)
     ]
 
@@ -84,7 +84,7 @@ few_lines c =
       c.loop-j.invariant.2,
       c.loop-j.auto.j-end,
       c.len-j-end.ensures,
-      few_entries c.args.desk.now c.requires.sound (contents c.args.shelf.now) c.requires.few,
+      few_entries c.args.desk.now c.requires.few_places (contents c.args.shelf.now) c.requires.few,
       c.count_busy.ensures,
       busy_few (λ k. get_or c.loop-j.granted k 0) 0 c.args.request.now.length,
       c.requires.term,
