@@ -1,5 +1,5 @@
 // The calls on one record, by its AREF.
-ghost use Rattle.std.specs.Prelude.{◌≡◌, ◌<◌, true, length, slice_index_or};
+ghost use Rattle.std.specs.Prelude.{◌≡◌, ◌<◌, ◌≤◌, true, length, slice_index_or};
 ghost use Rattle.admitting.specs.Writing.{Writes};
 ghost use Rattle.answers.specs.Told.{told};
 ghost use Rattle.desk.specs.Desks.{view};
@@ -23,6 +23,7 @@ use terms::words::State;
 // The record in a place is confirmed: no MW move, and it falls due when its last day is over.
 fn confirm_at(desk: &mut Desk, minute: u32, i: usize) -> Done
     requires sound { Sound desk.old }
+    requires few_lines { length desk.old.lines.now ≤ 65536 }
     requires within { i < length desk.old.places.now }
     requires lives { living (slice_index_or (view desk.old).places i nobody) ≡ true }
     ensures shown { Showing desk.new }
@@ -47,7 +48,8 @@ fn confirm_at(desk: &mut Desk, minute: u32, i: usize) -> Done
 
 // The customer confirms a pending record.
 pub fn confirm(desk: &mut Desk, minute: u32, aref: u32) -> Result<Done, Refusal>
-    requires { Sound desk.old }
+    requires sound { Sound desk.old }
+    requires few_lines { length desk.old.lines.now ≤ 65536 }
     ensures shown { Showing desk.new }
     ensures says { (R : Rules) → (told result, view desk.new) ≡ step R (confirming minute aref) (view desk.old) }
 {
@@ -59,7 +61,8 @@ pub fn confirm(desk: &mut Desk, minute: u32, aref: u32) -> Result<Done, Refusal>
 
 // The customer withdraws a pending record.
 pub fn withdraw(desk: &mut Desk, minute: u32, aref: u32) -> Result<Done, Refusal>
-    requires { Sound desk.old }
+    requires sound { Sound desk.old }
+    requires few_lines { length desk.old.lines.now ≤ 65536 }
     ensures shown { Showing desk.new }
     ensures says { (R : Rules) → (told result, view desk.new) ≡ step R (withdrawing minute aref) (view desk.old) }
 {
@@ -76,7 +79,8 @@ pub fn decline<S: RuleSheet>(
     minute: u32,
     aref: u32,
 ) -> Result<Done, Refusal>
-    requires { Sound desk.old }
+    requires sound { Sound desk.old }
+    requires few_lines { length desk.old.lines.now ≤ 65536 }
     ensures shown { Showing desk.new }
     ensures says { (told result, view desk.new) ≡ step (S.rules sheet.now) (declining minute aref) (view desk.old) }
 {

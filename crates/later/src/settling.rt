@@ -21,7 +21,8 @@ use terms::words::State;
 
 // The place of the earliest item due before the minute.
 fn earliest(desk: &Desk, minute: u32) -> Option<usize>
-    requires { Sound desk.now }
+    requires sound { Sound desk.now }
+    requires few_places { length desk.now.places.now ≤ 128 }
     ensures { IsFirstDue (view desk.now).places minute result }
 {
     first_due(desk.places, minute)
@@ -35,6 +36,7 @@ fn settle_at<S: RuleSheet>(
     i: usize,
 ) -> Result<Done, Refusal>
     requires sound { Sound desk.old }
+    requires few_lines { length desk.old.lines.now ≤ 65536 }
     requires within { i < length desk.old.places.now }
     requires early { minute ≤ 1000000 }
     ensures shown { Showing desk.new }
@@ -51,7 +53,9 @@ fn settle_at<S: RuleSheet>(
 
 // Settles the earliest item due before the minute.
 pub fn settle<S: RuleSheet>(desk: &mut Desk, sheet: &S, minute: u32) -> Result<Done, Refusal>
-    requires { Sound desk.old }
+    requires sound { Sound desk.old }
+    requires few_lines { length desk.old.lines.now ≤ 65536 }
+    requires few_places { length desk.old.places.now ≤ 128 }
     ensures shown { Showing desk.new }
     ensures says { (told result, view desk.new) ≡ step (S.rules sheet.now) (settling minute) (view desk.old) }
 {

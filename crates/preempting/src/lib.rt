@@ -3,4 +3,3 @@ pub mod challenging;
 pub mod given;
 pub mod giving;
 pub mod superseding;
-pub mod visiting;

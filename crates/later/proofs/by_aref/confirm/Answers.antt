@@ -8,13 +8,13 @@ use Rattle.later.proofs.OneCall.{stepped, in_places, lives, named}
 use Rattle.later.proofs.by_aref.confirm.Goals as goal
 
 pub confirm_at-requires : goal.confirm_at-requires
-confirm_at-requires c = let d = c.args.desk.now in let P = c.in-Ok.ensures in record { sound = c.requires; within = in_places d _ _ _ _ P; lives = lives d _ _ _ _ P }
+confirm_at-requires c = let d = c.args.desk.now in let P = c.in-Ok.ensures in record { sound = c.requires.sound; few_lines = c.requires.few_lines; within = in_places d _ _ _ _ P; lives = lives d _ _ _ _ P }
 
 pub returns-in-Err : goal.returns-in-Err
 returns-in-Err c =
     let v = view c.args.desk.now in let a = c.args.aref in let k = confirm c.args.minute a in
     record {
-      shown = showing_of c.args.desk.now c.requires;
+      shown = showing_of c.args.desk.now c.requires.sound;
       says = λ R. stepped R k v _ _ _ (c.in-Err.ensures R k (λ e. makes v.lines (change a stand_confirmed v.places) a Confirmed) (record { at_minute = refl; settles_not = refl; is_by_aref = refl })) refl;
     }
 

@@ -6,13 +6,13 @@ use Rattle.later.proofs.OneCall.{stepped, in_places, lives}
 use Rattle.later.proofs.by_aref.decline.Goals as goal
 
 pub decline_at-requires : goal.decline_at-requires
-decline_at-requires g c = let d = c.args.desk.now in let P = c.in-Ok.ensures in record { sound = c.requires; within = in_places d _ _ _ _ P; lives = lives d _ _ _ _ P; early = P.early }
+decline_at-requires g c = let d = c.args.desk.now in let P = c.in-Ok.ensures in record { sound = c.requires.sound; few_lines = c.requires.few_lines; within = in_places d _ _ _ _ P; lives = lives d _ _ _ _ P; early = P.early }
 
 pub returns-in-Err : goal.returns-in-Err
 returns-in-Err g c =
     let v = view c.args.desk.now in let t = c.args.minute in let k = decline t c.args.aref in let R = g.S.RuleSheet.rules c.args.sheet.now in
     record {
-      shown = showing_of c.args.desk.now c.requires;
+      shown = showing_of c.args.desk.now c.requires.sound;
       says = stepped R k v _ _ _ (c.in-Err.ensures R k (λ e. declined R t e v) (record { at_minute = refl; settles_not = refl; is_by_aref = refl })) refl;
     }
 

@@ -4,4 +4,4 @@ use Rattle.desk.specs.Records.{entry_of}
 use Rattle.later.proofs.settling.earliest.Goals as goal
 
 pub first_due-requires : goal.first_due-requires
-first_due-requires c = omega (arith, c.requires.kept.few-places, length-map c.args.desk.now.places.now entry_of)
+first_due-requires c = omega (arith, c.requires.few_places, length-map c.args.desk.now.places.now entry_of)

@@ -11,11 +11,12 @@ use Rattle.later.proofs.settling.settle.Goals as goal
 pub returns-in-Err : goal.returns-in-Err
 returns-in-Err g c =
     let d = c.args.desk.now in let k = settle c.args.minute in let R = g.S.RuleSheet.rules c.args.sheet.now in
-    record { shown = showing_of d c.requires; says = stepped R k (view d) _ _ _ (c.in-Err.ensures R k refl refl) refl }
+    record { shown = showing_of d c.requires.sound; says = stepped R k (view d) _ _ _ (c.in-Err.ensures R k refl refl) refl }
 
 pub settle_at-requires : goal.settle_at-requires
 settle_at-requires g c = record {
-  sound = c.requires;
+  sound = c.requires.sound;
+  few_lines = c.requires.few_lines;
   within = omega (arith, c.in-Some.ensures.within, length-map c.args.desk.now.places.now entry_of);
   early = c.in_default.ensures.0;
 }
@@ -24,7 +25,7 @@ pub returns-in-None : goal.returns-in-None
 returns-in-None g c =
     let d = c.args.desk.now in let v = view d in let t = c.args.minute in let k = settle t in let R = g.S.RuleSheet.rules c.args.sheet.now in
     record {
-      shown = showing_of d c.requires;
+      shown = showing_of d c.requires.sound;
       says = stepped R k v _ _ _ (c.in_default.ensures.1 R k refl refl ∙ ap (λ (e : Entry). settles R t e v e.standing.state) c.in-None.ensures.first) refl;
     }
 

@@ -4,13 +4,14 @@ use Rattle.later.proofs.Settles.{lives_in, settled_so}
 use Rattle.later.proofs.settling.settle_at.Goals as goal
 
 pub fly-requires : goal.fly-requires
-fly-requires g c = let p = c.requires in record { sound = p.sound; within = p.within; lives = lives_in c.args.desk.now c.args.i p.within _ c.in-Confirmed.is refl }
+fly-requires g c = let p = c.requires in record { sound = p.sound; few_lines = p.few_lines; within = p.within; lives = lives_in c.args.desk.now c.args.i p.within _ c.in-Confirmed.is refl }
 
 pub let_go-requires : goal.let_go-requires
 let_go-requires g c =
     let p = c.requires in
     record {
       sound = p.sound;
+      few_lines = p.few_lines;
       within = p.within;
       lives = elim c.in-Accepted.is [
         | inl q ↦ lives_in c.args.desk.now c.args.i p.within _ q refl
@@ -19,7 +20,7 @@ let_go-requires g c =
     }
 
 pub decline_at-requires : goal.decline_at-requires
-decline_at-requires g c = let p = c.requires in record { sound = p.sound; within = p.within; lives = lives_in c.args.desk.now c.args.i p.within _ c.in-Challenged.is refl; early = p.early }
+decline_at-requires g c = let p = c.requires in record { sound = p.sound; few_lines = p.few_lines; within = p.within; lives = lives_in c.args.desk.now c.args.i p.within _ c.in-Challenged.is refl; early = p.early }
 
 pub returns-in-Confirmed : goal.returns-in-Confirmed
 returns-in-Confirmed g c = record {
