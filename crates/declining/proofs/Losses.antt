@@ -1,6 +1,6 @@
 -- The record in a place loses what was set aside of it: the move may be made, how many lines that writes, and what is
 -- written then.
-use Rattle.std.proofs.Common.{◌≡◌, ℕ, ◌+◌, ◌-◌, ◌*◌, ◌<◌, ◌≤◌, true, List, length, get_or, set, sym, refl, ap, ◌∙◌, subst, arith}
+use Rattle.std.proofs.Common.{◌≡◌, ℕ, ◌+◌, ◌*◌, ◌<◌, ◌≤◌, true, List, length, get_or, set, sym, refl, ap, ◌∙◌, subst, arith}
 use Rattle.std.specs.List.{AllByRecursion}
 use Rattle.std.proofs.ByRecursion.{All-get_or, All-set}
 use Rattle.std.proofs.lemmas.List.{length-map, length-take-le, get_or-map}
@@ -11,25 +11,23 @@ use Rattle.terms.specs.declared.words.State.{State}
 use Rattle.sheets.specs.Rules.{Rules}
 use Rattle.journal.specs.declared.line.Line.{Line}
 use Rattle.journal.specs.declared.line.LineKind.TheVariants.{Lost}
-use Rattle.journal.specs.Accounts.{Account, held, aside, balance}
-use Rattle.law.specs.View.{View, Entry, living, aref_of, start_of, length_of, find, nobody}
+use Rattle.journal.specs.Accounts.{held, aside, balance}
+use Rattle.law.specs.View.{View, Entry, living, aref_of, length_of, find, nobody}
 use Rattle.law.specs.Keeps.{Termed, InTerm}
 use Rattle.law.specs.Places.{change, in_state, due_at, over_at}
 use Rattle.law.specs.Posting.{by_day, busy_days}
-use Rattle.law.specs.Calls.{lose, close_if_last, declined, makes, refusal, done}
+use Rattle.law.specs.Calls.{close_if_last, declined, makes, refusal, done}
 use Rattle.desk.specs.declared.memory.Desk.{Desk}
 use Rattle.desk.specs.Desks.{view}
 use Rattle.desk.specs.Records.{entry_of}
 use Rattle.desk.specs.Soundness.{Sound}
 use Rattle.posting.specs.declared.sides.Side.TheVariants.{Held, Aside}
 use Rattle.posting.specs.Sides.{unread, place, There, account}
-use Rattle.moving.specs.declared.Move.{Move}
 use Rattle.moving.specs.Midway.{Midway}
 use Rattle.moving.specs.Moves.{moved, Movable, Along}
 use Rattle.moving.proofs.FromSound.{midway_of, moves_all}
 use Rattle.moving.proofs.Walks.{length-walk}
-use Rattle.restating.proofs.SameRecord.{there_is, short_term, early_term, along_held}
-use Rattle.admitting.specs.Admission.{Found}
+use Rattle.restating.proofs.SameRecord.{there_is, early_term, along_held}
 use Rattle.admitting.specs.Writing.{Writes}
 use Rattle.admitting.proofs.AtPlace.{change_at}
 use Rattle.admitting.proofs.Written.{book_after, writes_none, writes_all}

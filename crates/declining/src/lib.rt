@@ -1,4 +1,6 @@
 // A match that is declined: what was set aside of a record goes to its challenger.
+#![tactic(auto)]
+
 ghost use Rattle.std.specs.Prelude.{◌≡◌, ◌<◌, ◌≤◌, true, length, slice_index_or};
 ghost use Rattle.admitting.specs.Writing.{Writes};
 ghost use Rattle.answers.specs.Told.{told};

@@ -1,21 +1,16 @@
 -- Entering a request: the new record is seated and granted, and the answer is what the rules make of it.
-use Rattle.std.proofs.Common.{◌≡◌, ℕ, ◌+◌, ◌-◌, ◌<◌, ◌≤◌, min, Bool, true, false, ◌&&◌, eqb, ◌≢◌, ◌⊎◌, List, length, set, sym, refl, ap, ◌∙◌, subst, inl, inr, arith}
-use Rattle.std.proofs.lemmas.List.{length-map}
+use Rattle.std.proofs.Common.{◌≡◌, ℕ, ◌+◌, ◌≤◌, min, true, eqb, ◌⊎◌, length, set, sym, refl, ap, ◌∙◌, inl, inr, arith}
 use Rattle.std.proofs.lemmas.Bool.{and_parts, leb-true, eq-eqb, ne_eqb, cases_eq}
 use Rattle.terms.specs.declared.request.Request.{Request}
-use Rattle.terms.specs.declared.words.Product.{Product}
-use Rattle.terms.specs.declared.words.Product.TheVariants.{Daily, Weekly, Monthly}
 use Rattle.terms.specs.declared.words.State.{State}
-use Rattle.terms.specs.Limits.{sellable, sold_length, sold_amount, within}
+use Rattle.terms.specs.Limits.{sellable, sold_length, sold_amount}
 use Rattle.terms.specs.Words.{is_living}
-use Rattle.sheets.specs.Laws.{Possible}
 use Rattle.sheets.specs.Rules.{Rules}
-use Rattle.journal.specs.declared.line.Line.{Line}
 use Rattle.journal.specs.declared.line.LineKind.TheVariants.{Granted}
 use Rattle.journal.specs.Accounts.{free, held, aside, balance}
 use Rattle.law.specs.View.{View, Entry, aref_of, start_of, living, count}
 use Rattle.law.specs.Places.{seat, new_record}
-use Rattle.law.specs.Posting.{post, by_day, busy_days, free_on}
+use Rattle.law.specs.Posting.{by_day, busy_days}
 use Rattle.law.specs.Preemption.{wanted, grant}
 use Rattle.law.proofs.Terms.{checked_possible}
 use Rattle.desk.specs.declared.memory.Desk.{Desk}
@@ -30,8 +25,6 @@ use Rattle.answers.proofs.Written.{book_after}
 use Rattle.moving.specs.declared.Move.{Move}
 use Rattle.moving.specs.Midway.{Midway, with_places}
 use Rattle.moving.specs.Moves.{moved, Movable, Along}
-use Rattle.moving.proofs.FromSound.{midway_of}
-use Rattle.moving.proofs.Midways.{length-moves}
 use Rattle.moving.proofs.OnceSeated.{once_entered}
 use Rattle.moving.proofs.Walks.{busy_same, length-walk}
 use Rattle.entering.specs.Enterable.{Enterable, NewRecord}

@@ -1,5 +1,5 @@
 -- A record that was written into a place stands there, and a new AREF has no MW yet.
-use Rattle.std.proofs.Common.{◌≡◌, ℕ, ◌<◌, ◌≤◌, true, false, ◌⊎◌, List, map, length, get_or, set, replicate, sym, refl, ap, ◌∙◌, subst, inl, inr, arith}
+use Rattle.std.proofs.Common.{◌≡◌, ℕ, ◌<◌, ◌≤◌, true, ◌⊎◌, List, map, length, get_or, set, replicate, sym, ap, ◌∙◌, inl, inr, arith}
 use Rattle.std.proofs.lemmas.List.{length-map, get_or-map, get_or-set_same, get_or-replicate, length-set}
 use Rattle.std.proofs.lemmas.Bool.{cases_lt, cond-true}
 use Rattle.journal.specs.Accounts.{Account, held, aside, balance}

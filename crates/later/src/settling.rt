@@ -1,5 +1,5 @@
 // Settling: what the earliest item that is due comes to.
-ghost use Rattle.std.specs.Prelude.{◌≡◌, ◌<◌, ◌≤◌, length, get_or, slice_index_or};
+ghost use Rattle.std.specs.Prelude.{◌≡◌, ◌<◌, ◌≤◌, length, slice_index_or};
 ghost use Rattle.admitting.specs.Writing.{Writes};
 ghost use Rattle.answers.specs.Told.{told};
 ghost use Rattle.desk.specs.Desks.{view};
@@ -40,7 +40,7 @@ fn settle_at<S: RuleSheet>(
     requires within { i < length desk.old.places.now }
     requires early { minute ≤ 1000000 }
     ensures shown { Showing desk.new }
-    ensures says { Writes (view desk.old) minute (settles (S.rules sheet.now) minute (slice_index_or (view desk.old).places i nobody) (view desk.old) (get_or (view desk.old).places i nobody).standing.state) (told result) (view desk.new) }
+    ensures says { Writes (view desk.old) minute (settles (S.rules sheet.now) minute (slice_index_or (view desk.old).places i nobody) (view desk.old) (slice_index_or (view desk.old).places i nobody).standing.state) (told result) (view desk.new) }
 {
     let state = desk.places[i].standing.state;
     match state {

@@ -1,5 +1,5 @@
 -- When preemption begins: exactly when it should, read off the lines that the submit wrote.
-use Rattle.std.specs.Prelude.{◌≡◌, ℕ, ◌+◌, ◌≤◌, Bool, true, false, ◌||◌, leb, List, [], ◌∷◌, ◌++◌, length, nat_le, nat_lt}
+use Rattle.std.specs.Prelude.{◌≡◌, ℕ, ◌+◌, ◌≤◌, Bool, true, false, ◌||◌, nat_le, List, [], ◌∷◌, ◌++◌, length, nat_lt}
 use Rattle.terms.specs.declared.request.Request.{Request}
 use Rattle.terms.specs.Days.{Days, first_minute}
 use Rattle.terms.specs.Words.{is_gone}
@@ -27,7 +27,7 @@ GaveWaySince ls ms = (new : List Line) × (ms ≡ ls ++ new) × (somebody_gives_
 pub record NotStopped (R : Rules) (minute : ℕ) (r : Request) (v : View) : Type 0 where
   pub minute_fits : (nat_lt last_minute minute || nat_lt minute v.clock) ≡ false
   pub nothing_due : some (is_due minute) v.places ≡ false
-  pub aref_new : leb r.aref v.top ≡ false
+  pub aref_new : nat_le r.aref v.top ≡ false
   pub term_offered : (nat_le (first_minute r.start) minute || nat_lt (length v.days.amounts) (r.start + r.length)) ≡ false
   pub carried : R.carries r ≡ true
   pub place_free : some (λ e. is_gone e.standing.state) v.places ≡ true
@@ -35,11 +35,11 @@ pub record NotStopped (R : Rules) (minute : ℕ) (r : Request) (v : View) : Type
 pub record PreemptionDue (R : Rules) (minute : ℕ) (r : Request) (v : View) : Type 0 where
   pub not_stopped : NotStopped R minute r v
   -- free capacity is short on some day
-  pub short_somewhere : each_day (λ day. leb (wanted r day) (free_on v.lines day)) r.start r.length ≡ false
+  pub short_somewhere : each_day (λ day. nat_le (wanted r day) (free_on v.lines day)) r.start r.length ≡ false
   pub no_match_open : match_open v.places ≡ false
   pub in_time : R.in_time r minute v.days ≡ true
   -- free and the defenders' holdings meet it whole
-  pub can_be_met : each_day (λ day. leb (wanted r day) (free_on v.lines day + holdings v.lines (defenders R minute r v) day)) r.start r.length ≡ true
+  pub can_be_met : each_day (λ day. nat_le (wanted r day) (free_on v.lines day + holdings v.lines (defenders R minute r v) day)) r.start r.length ≡ true
   -- the journal lines suffice
   pub lines_suffice : length (preempt R minute r v) ≤ v.room
 

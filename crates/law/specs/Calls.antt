@@ -1,5 +1,5 @@
 -- What each call on a book answers and makes of it.
-use Rattle.std.specs.Prelude.{ℕ, ◌+◌, ◌-◌, min, Bool, true, false, cond, not, ◌&&◌, ◌||◌, leb, List, [], ◌∷◌, map, length, filter, ◌==◌, nat_eq, nat_le, nat_lt}
+use Rattle.std.specs.Prelude.{ℕ, ◌+◌, ◌-◌, min, Bool, true, false, cond, not, ◌&&◌, ◌||◌, nat_le, List, [], ◌∷◌, map, length, filter, ◌==◌, nat_eq, nat_lt}
 use Rattle.terms.specs.declared.refusal.Refusal.{Refusal}
 use Rattle.terms.specs.declared.refusal.Refusal.TheVariants.{BadMinute, ItemDue, OldAref, TermNotOffered, NotCarried, NoPlace, MatchOpen, NothingFree, NoRecord, WrongState, NoExtension, NothingDue, JournalFull}
 use Rattle.terms.specs.declared.request.Request.{Request}
@@ -70,7 +70,7 @@ extend minute x a b day ls =
 -- when its last match closes, a challenger is confirmed if it holds its MW on each day, gone if empty, else offered
 abbrev pub closed_state : List Line → Entry → State
 closed_state ls e =
-    cond (each_day (λ day. leb (wanted e.standing.request day) (holding ls (aref_of e) day)) (start_of e) (length_of e)) Confirmed
+    cond (each_day (λ day. nat_le (wanted e.standing.request day) (holding ls (aref_of e) day)) (start_of e) (length_of e)) Confirmed
     (cond (empty ls e) Gone Offered)
 
 abbrev pub close : Rules → ℕ → List Line → Entry → Entry
@@ -100,7 +100,7 @@ matched R minute e v =
     let more = new.length - length_of e in
     let first = start_of e + length_of e in
     let ls = by_day (extend minute x a b) first more (by_day (keep minute a b) (start_of e) (length_of e) v.lines) in
-    stop_if (nat_lt (length v.days.amounts) (first + more) || not (each_day (λ day. leb x (free_on v.lines day + holding v.lines b day)) first more)) NoExtension
+    stop_if (nat_lt (length v.days.amounts) (first + more) || not (each_day (λ day. nat_le x (free_on v.lines day + holding v.lines b day)) first more)) NoExtension
     (makes ls (close_if_last R minute ls b (change a (λ d. record { standing = record { request = new; state = Confirmed; queued = d.standing.queued }; due = first_minute (start_of e + new.length); against = 0 }) v.places)) a Confirmed)
 
 -- Submit.
@@ -115,10 +115,10 @@ steps R minute r v =
     let granted = by_day (grant minute r) r.start r.length v.lines in
     let ls = preempt R minute r v in
     let es = map (after_preempt R minute r v ls) v.places in
-    if_so (each_day (λ day. leb (wanted r day) (free_on v.lines day)) r.start r.length)
+    if_so (each_day (λ day. nat_le (wanted r day) (free_on v.lines day)) r.start r.length)
     (entered R minute r (cond r.preconfirmed Confirmed Accepted) granted v.places)
     (stop_if (match_open v.places) MatchOpen
-    (if_so (R.in_time r minute v.days && each_day (λ day. leb (wanted r day) (free_on v.lines day + holdings v.lines (defenders R minute r v) day)) r.start r.length)
+    (if_so (R.in_time r minute v.days && each_day (λ day. nat_le (wanted r day) (free_on v.lines day + holdings v.lines (defenders R minute r v) day)) r.start r.length)
     (entered R minute r (cond (match_open es) Competing Confirmed) ls es)
     (stop_if (each_day (λ day. nat_eq (free_on v.lines day) 0) r.start r.length) NothingFree
     (entered R minute r Offered granted v.places))))

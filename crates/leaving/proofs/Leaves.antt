@@ -8,7 +8,7 @@ use Rattle.terms.specs.declared.refusal.Refusal.TheVariants.{JournalFull}
 use Rattle.terms.specs.declared.words.State.TheVariants.{Gone}
 use Rattle.journal.specs.declared.line.Line.{Line}
 use Rattle.journal.specs.declared.line.LineKind.{LineKind}
-use Rattle.journal.specs.Accounts.{Account, held, sort, from, balance}
+use Rattle.journal.specs.Accounts.{Account, sort, from, balance}
 use Rattle.law.specs.View.{View, Entry, living, aref_of, start_of, length_of, nobody}
 use Rattle.law.specs.Keeps.{Termed}
 use Rattle.law.specs.Places.{due_at, leave}
@@ -26,7 +26,7 @@ use Rattle.moving.specs.Midway.{Midway}
 use Rattle.moving.specs.Moves.{moved, Movable}
 use Rattle.moving.proofs.FromSound.{midway_of, moves_all}
 use Rattle.moving.proofs.Walks.{length-walk}
-use Rattle.restating.proofs.SameRecord.{there_is, short_term, early_term, along_held}
+use Rattle.restating.proofs.SameRecord.{there_is, early_term, along_held}
 use Rattle.admitting.specs.Writing.{Writes}
 use Rattle.admitting.proofs.AtPlace.{change_at}
 use Rattle.admitting.proofs.Written.{book_after, writes_none, writes_all}

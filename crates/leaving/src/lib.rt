@@ -1,4 +1,6 @@
 // A record that leaves: its MW become free, or have flown, and its place is given back.
+#![tactic(auto)]
+
 ghost use Rattle.std.specs.Prelude.{◌≡◌, ◌<◌, ◌≤◌, true, length, slice_index_or};
 ghost use Rattle.admitting.specs.Writing.{Writes};
 ghost use Rattle.answers.specs.Told.{told};

@@ -1,5 +1,5 @@
 -- What giving sets aside: of the giver alone, and something where it meets a shortage and has the right.
-use Rattle.std.proofs.Common.{◌≡◌, ℕ, zero, suc, ◌+◌, ◌<◌, ◌≤◌, min, Bool, true, false, cond, not, ◌&&◌, ◌||◌, eqb, ◌≢◌, ◌⊎◌, List, [], ◌∷◌, sym, refl, ap, ◌∙◌, subst, inl, inr, arith}
+use Rattle.std.proofs.Common.{◌≡◌, ℕ, zero, suc, ◌+◌, ◌<◌, ◌≤◌, min, Bool, true, false, cond, ◌||◌, eqb, ◌⊎◌, List, [], ◌∷◌, sym, refl, ap, ◌∙◌, inl, inr, arith}
 use Rattle.std.specs.List.{AllByRecursion}
 use Rattle.std.proofs.lemmas.Bool.{eq-eqb, ne_eqb, or_right, not-true, false≢true}
 use Rattle.terms.specs.declared.request.Request.{Request}
@@ -7,13 +7,13 @@ use Rattle.terms.specs.Words.{is_pending}
 use Rattle.sheets.specs.Rules.{Rules}
 use Rattle.journal.specs.declared.line.Line.{Line}
 use Rattle.journal.specs.declared.line.LineKind.TheVariants.{Recalled, SetAside}
-use Rattle.journal.specs.Accounts.{Account, held, aside, sort, same, from, to, balance, NeverBelowZero}
+use Rattle.journal.specs.Accounts.{held, aside, balance, NeverBelowZero}
 use Rattle.law.specs.View.{Entry, aref_of, start_of, length_of}
 use Rattle.law.specs.Posting.{post, by_day, each_day, holding}
 use Rattle.law.specs.Preemption.{short, meets_shortage, give, none_aside}
-use Rattle.law.proofs.ShrinkingShortage.{Later, each_true, each_false, later_give}
-use Rattle.visits.proofs.DayPostings.{DayStands, Moved, days_move}
-use Rattle.visits.proofs.OneVisit.{term_cases, each_day_same, short_stands}
+use Rattle.law.proofs.ShrinkingShortage.{each_true, each_false, later_give}
+use Rattle.visits.proofs.DayPostings.{Moved, days_move}
+use Rattle.visits.proofs.OneVisit.{term_cases, short_stands}
 use Rattle.preempting.specs.Giving.{given_kind}
 use Rattle.preempting.specs.Visits.{giving}
 use Rattle.preempting.proofs.Folds.{visits}

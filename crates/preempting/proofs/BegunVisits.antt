@@ -1,9 +1,8 @@
 -- A visit that begins: who is passed over, and who gives from which place to which.
-use Rattle.std.proofs.Common.{◌≡◌, ℕ, zero, suc, ◌+◌, ◌<◌, ◌≤◌, min, Bool, true, false, cond, ◌||◌, eqb, ◌≢◌, ◌⊎◌, List, length, get_or, set, sym, refl, ap, ◌∙◌, subst, inl, inr, arith}
+use Rattle.std.proofs.Common.{◌≡◌, ℕ, zero, suc, ◌+◌, ◌<◌, ◌≤◌, min, Bool, true, false, ◌||◌, eqb, ◌≢◌, ◌⊎◌, List, length, set, sym, refl, ap, ◌∙◌, subst, inl, inr, arith}
 use Rattle.std.proofs.lemmas.List.{length-map, length-set, get_or-set_same, get_or-set_other}
-use Rattle.std.proofs.lemmas.Bool.{or_cases, eqb-true, not-false, cond-true, cond-false}
+use Rattle.std.proofs.lemmas.Bool.{or_cases, eqb-true, not-false}
 use Rattle.terms.specs.declared.request.Request.{Request}
-use Rattle.terms.specs.Words.{is_pending}
 use Rattle.sheets.specs.Rules.{Rules}
 use Rattle.journal.specs.declared.line.Line.{Line}
 use Rattle.law.specs.View.{View, Entry, aref_of, start_of, length_of, living}
@@ -15,10 +14,9 @@ use Rattle.desk.specs.Desks.{view}
 use Rattle.desk.specs.Records.{entry_of}
 use Rattle.posting.proofs.OneLine.{none_posted}
 use Rattle.defending.specs.LinedUp.{entry_at}
-use Rattle.moving.specs.Midway.{Midway, with_places}
 use Rattle.preempting.specs.declared.giving.Giving.{Giving}
-use Rattle.preempting.specs.Giving.{Giveable, Seated, giving_of, challenged_by}
-use Rattle.preempting.specs.Visits.{StandsReady, giving}
+use Rattle.preempting.specs.Giving.{Giveable, Seated, giving_of}
+use Rattle.preempting.specs.Visits.{StandsReady}
 
 -- steps that change nothing on any of n days
 pub by_day_still : (f : ℕ → List Line → List Line) (ls : List Line) (s n : ℕ) → ((k : ℕ) → s ≤ k → k < s + n → f k ls ≡ ls) → by_day f s n ls ≡ ls

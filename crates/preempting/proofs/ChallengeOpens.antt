@@ -1,11 +1,11 @@
 -- A record that is challenged in its place.
-use Rattle.std.proofs.Common.{◌≡◌, ℕ, ◌+◌, ◌<◌, ◌≤◌, true, List, length, get_or, set, replicate, sym, refl, ap, ◌∙◌, subst, arith}
+use Rattle.std.proofs.Common.{◌≡◌, ℕ, ◌+◌, ◌<◌, ◌≤◌, length, get_or, set, replicate, sym, refl, ap, ◌∙◌, arith}
 use Rattle.std.proofs.ByRecursion.{All-get_or}
 use Rattle.std.proofs.lemmas.List.{length-map, get_or-replicate}
 use Rattle.std.proofs.lemmas.Bool.{cond-true}
 use Rattle.terms.specs.declared.request.Request.{Request}
 use Rattle.terms.specs.declared.words.State.TheVariants.{Challenged}
-use Rattle.journal.specs.Accounts.{aside, held, balance}
+use Rattle.journal.specs.Accounts.{aside, balance}
 use Rattle.law.specs.View.{Entry, aref_of, start_of, living, count}
 use Rattle.desk.specs.declared.memory.Desk.{Desk}
 use Rattle.desk.specs.declared.record.Record.{Record}

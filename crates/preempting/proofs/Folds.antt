@@ -1,16 +1,15 @@
 -- Visits one after another: what holds after the first j of them, and after all.
-use Rattle.std.proofs.Common.{◌≡◌, ℕ, ◌+◌, ◌<◌, ◌≤◌, Bool, true, false, cond, List, [], ◌∷◌, ◌++◌, length, get_or, take, drop, sym, refl, ap, ◌∙◌, subst, arith}
+use Rattle.std.proofs.Common.{◌≡◌, ℕ, ◌+◌, ◌<◌, ◌≤◌, List, [], ◌∷◌, ◌++◌, length, get_or, take, drop, sym, refl, ap, ◌∙◌, subst, arith}
 use Rattle.std.specs.List.{AllByRecursion}
 use Rattle.std.proofs.lemmas.List.{take_more, take-append-drop, take_all}
 use Rattle.terms.specs.declared.request.Request.{Request}
-use Rattle.terms.specs.Words.{is_pending}
 use Rattle.sheets.specs.Rules.{Rules}
 use Rattle.journal.specs.declared.line.Line.{Line}
 use Rattle.journal.specs.declared.line.LineKind.{LineKind}
 use Rattle.journal.specs.Accounts.{NeverBelowZero}
-use Rattle.law.specs.View.{Entry, aref_of, nobody}
+use Rattle.law.specs.View.{Entry, nobody}
 use Rattle.law.specs.Posting.{post, by_day}
-use Rattle.law.specs.Preemption.{supersede, give, supersede_all, give_all}
+use Rattle.law.specs.Preemption.{supersede_all, give_all}
 use Rattle.law.proofs.ShrinkingShortage.{Later, later_refl, later_trans}
 use Rattle.moving.proofs.Walks.{by_day_none, by_day_grows, length-post}
 use Rattle.preempting.specs.Visits.{superseding, giving}

@@ -1,23 +1,20 @@
 -- What is given on one day: the posting may be made, and the day is that much less short.
-use Rattle.std.proofs.Common.{◌≡◌, ℕ, zero, suc, ◌+◌, ◌-◌, ◌<◌, ◌≤◌, min, Bool, true, false, cond, ◌&&◌, eqb, ltb, leb, ◌≢◌, ◌⊎◌, List, [], ◌∷◌, length, get_or, take, set, sum, sym, refl, ap, ◌∙◌, subst, inl, inr, arith}
+use Rattle.std.proofs.Common.{◌≡◌, ℕ, ◌+◌, ◌-◌, ◌<◌, ◌≤◌, min, Bool, true, false, cond, ◌&&◌, eqb, ltb, leb, ◌⊎◌, List, length, get_or, take, set, sum, sym, refl, ap, ◌∙◌, subst, inl, inr, arith}
 use Rattle.std.proofs.lemmas.List.{get_or-map, get_or-set_same, get_or-set_other, length-set, length-take-le, get_or-take, drop-set-lt}
 use Rattle.std.proofs.lemmas.List.Sums.{sum_by-set, sum_by-take-drop, get_or-le-sum_by}
 use Rattle.std.proofs.lemmas.Bool.{cases_eq, eq-eqb, ne_eqb, and_left, and_right, lt-leb, le-ltb, cond-false}
 use Rattle.terms.specs.declared.request.Request.{Request}
 use Rattle.journal.specs.declared.line.Line.{Line}
-use Rattle.journal.specs.declared.line.LineKind.{LineKind}
 use Rattle.journal.specs.declared.line.LineKind.TheVariants.{Recalled, SetAside}
 use Rattle.journal.specs.Accounts.{Account, free, held, aside, sort, from, to, balance, NeverBelowZero}
 use Rattle.law.specs.View.{View, Entry, aref_of, start_of, living, nobody, posted_on}
 use Rattle.law.specs.Posting.{post, holding, free_on}
 use Rattle.law.specs.Preemption.{short, taken}
-use Rattle.law.proofs.PostingEffects.{balance-post, day_post, taken_post}
+use Rattle.law.proofs.PostingEffects.{balance-post, taken_post}
 use Rattle.law.proofs.SoundLines.{Fine, fine_post}
 use Rattle.desk.specs.declared.memory.Desk.{Desk}
-use Rattle.desk.specs.declared.record.Record.{Record}
 use Rattle.desk.specs.Desks.{view}
 use Rattle.desk.specs.Records.{entry_of}
-use Rattle.posting.specs.declared.sides.Side.{Side}
 use Rattle.posting.specs.declared.sides.Side.TheVariants as sides
 use Rattle.posting.specs.Postable.{Showing, Postable, with_lines}
 use Rattle.posting.specs.Sides.{unread, place, There, Reach, stands, account}
@@ -32,7 +29,6 @@ use Rattle.visits.proofs.OneVisit.{as_short, less_short_by}
 use Rattle.preempting.specs.declared.giving.Giving.{Giving}
 use Rattle.preempting.specs.Giving.{Giveable, given_kind, given_on, taker_side}
 use Rattle.preempting.specs.Visits.{ShortShown}
-use Rattle.preempting.proofs.Shortages.{short_on_is}
 
 pub from_given : (c : Bool) (a b : ℕ) → from (given_kind c) a b ≡ held a
 from_given true a b = refl

@@ -1,19 +1,17 @@
 -- The next defender on the shelf, when those before it were visited: it stands ready where it stood.
-use Rattle.std.proofs.Common.{◌≡◌, ℕ, ◌+◌, ◌<◌, ◌≤◌, Bool, true, false, cond, List, [], ◌∷◌, map, length, get_or, take, Some, sym, refl, ap, ◌∙◌, subst, arith}
+use Rattle.std.proofs.Common.{◌≡◌, ℕ, ◌<◌, List, [], ◌∷◌, length, get_or, Some, sym, ap, ◌∙◌, subst, arith}
 use Rattle.std.specs.List.{AllByRecursion, slice_get}
-use Rattle.std.proofs.lemmas.List.{length-map, get_or-map}
+use Rattle.std.proofs.lemmas.List.{get_or-map}
 use Rattle.terms.specs.declared.request.Request.{Request}
 use Rattle.shelf.specs.declared.defender.Defender.{Defender}
 use Rattle.journal.specs.declared.line.Line.{Line}
-use Rattle.law.specs.View.{View, Entry, aref_of, start_of, length_of, nobody}
-use Rattle.law.specs.Posting.{holding}
+use Rattle.law.specs.View.{View, Entry, aref_of, nobody}
 use Rattle.law.proofs.ShrinkingShortage.{Later}
 use Rattle.desk.specs.declared.memory.Desk.{Desk}
 use Rattle.desk.specs.Desks.{view}
 use Rattle.posting.specs.Postable.{with_lines}
 use Rattle.defending.specs.LinedUp.{entry_at, lined}
 use Rattle.defending.proofs.ShelfReads.{entry_is, entry_holds}
-use Rattle.moving.specs.Midway.{Midway}
 use Rattle.moving.proofs.SameView.{same_length}
 use Rattle.preempting.specs.Visits.{StandsReady, AllReady}
 

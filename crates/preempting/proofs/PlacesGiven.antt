@@ -1,14 +1,13 @@
 -- Who stands in the places while the confirmed defenders give: those of whom something is aside are challenged.
-use Rattle.std.proofs.Common.{◌≡◌, ℕ, ◌+◌, ◌<◌, ◌≤◌, Bool, true, false, cond, eqb, ◌≢◌, ◌⊎◌, List, [], ◌∷◌, map, length, get_or, set, sym, refl, ap, ◌∙◌, subst, inl, inr, arith}
+use Rattle.std.proofs.Common.{◌≡◌, ℕ, ◌<◌, ◌≤◌, Bool, true, false, cond, eqb, ◌≢◌, ◌⊎◌, List, map, length, get_or, set, sym, refl, ap, ◌∙◌, inl, inr, arith}
 use Rattle.std.proofs.lemmas.List.{length-map, length-set, get_or-map, get_or-set_same, get_or-set_other, ext_get_or}
-use Rattle.std.proofs.lemmas.Bool.{cases_Bool, cases_eq, eq-eqb, and_from, and_parts, cond-true, cond-false}
+use Rattle.std.proofs.lemmas.Bool.{cases_Bool, cases_eq, eq-eqb, and_from, cond-true, cond-false}
 use Rattle.terms.specs.declared.request.Request.{Request}
 use Rattle.terms.specs.Days.{Days}
 use Rattle.sheets.specs.Rules.{Rules}
 use Rattle.journal.specs.declared.line.Line.{Line}
 use Rattle.journal.specs.Accounts.{aside, balance, NeverBelowZero}
-use Rattle.law.specs.View.{Entry, aref_of, start_of, length_of, living, is, count, nobody}
-use Rattle.law.specs.Posting.{each_day}
+use Rattle.law.specs.View.{Entry, aref_of, start_of, length_of, living, count, nobody}
 use Rattle.law.specs.Preemption.{defends, none_aside, meets_shortage, give}
 use Rattle.visits.proofs.OneVisit.{each_day_same}
 use Rattle.visits.proofs.Stopping.{each_day_from}

@@ -1,11 +1,11 @@
 -- What memory has of a defender that is visited, and of what is short, is what the accounts say.
-use Rattle.std.proofs.Common.{◌≡◌, ℕ, zero, suc, ◌+◌, ◌-◌, ◌<◌, ◌≤◌, min, Bool, true, false, cond, not, ◌&&◌, ◌||◌, eqb, ltb, leb, ◌⊎◌, List, map, length, get_or, sym, refl, ap, ◌∙◌, subst, inl, inr, arith}
+use Rattle.std.proofs.Common.{◌≡◌, ℕ, zero, suc, ◌+◌, ◌-◌, ◌<◌, ◌≤◌, min, Bool, true, false, cond, not, ◌&&◌, ◌||◌, eqb, ltb, leb, ◌⊎◌, List, length, get_or, sym, refl, ap, ◌∙◌, subst, inl, inr, arith}
 use Rattle.std.proofs.ByRecursion.{All-get_or}
-use Rattle.std.proofs.lemmas.List.{length-map, get_or-map}
-use Rattle.std.proofs.lemmas.Bool.{cases_Bool, cases_eq, eq-eqb, ne_eqb, eqb-true, eqb-false, and_parts, leb-true, ltb-true, cond-true, cond-false, or_cases, not-true, not-false}
+use Rattle.std.proofs.lemmas.List.{get_or-map}
+use Rattle.std.proofs.lemmas.Bool.{cases_Bool, cases_eq, eq-eqb, ne_eqb, and_parts, leb-true, ltb-true, cond-true, cond-false}
 use Rattle.terms.specs.declared.request.Request.{Request}
 use Rattle.journal.specs.declared.line.Line.{Line}
-use Rattle.journal.specs.Accounts.{held, balance}
+use Rattle.journal.specs.Accounts.{balance}
 use Rattle.law.specs.View.{Entry, aref_of, start_of, length_of, living, nobody}
 use Rattle.law.specs.Posting.{busy_days, each_day, holding}
 use Rattle.law.specs.Preemption.{short, meets_shortage}
@@ -16,11 +16,9 @@ use Rattle.desk.specs.Desks.{view}
 use Rattle.desk.specs.Records.{entry_of, held_on}
 use Rattle.desk.specs.Soundness.{Shows}
 use Rattle.desk.proofs.AmountsShown.{shown}
-use Rattle.posting.specs.Sides.{unread}
 use Rattle.posting.specs.Postable.{Showing}
 use Rattle.defending.specs.LinedUp.{entry_at}
 use Rattle.defending.specs.Shortage.{short_on, gives_here, HoldsInTerm}
-use Rattle.moving.proofs.Walks.{busy_same}
 use Rattle.preempting.specs.Visits.{StandsReady, ShortShown}
 
 -- some of n days have something exactly where not each has nothing

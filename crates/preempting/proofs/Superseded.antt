@@ -1,5 +1,5 @@
 -- A visit to a pending defender: the lines that it writes, and what is short after it.
-use Rattle.std.proofs.Common.{◌≡◌, ℕ, ◌+◌, ◌-◌, ◌<◌, ◌≤◌, min, Bool, true, false, cond, not, List, length, get_or, take, sym, refl, ap, ◌∙◌, subst, arith}
+use Rattle.std.proofs.Common.{◌≡◌, ℕ, ◌+◌, ◌-◌, ◌<◌, ◌≤◌, Bool, true, false, cond, List, length, get_or, take, sym, refl, ap, ◌∙◌, arith}
 use Rattle.std.proofs.lemmas.Bool.{cond-true, cond-false}
 use Rattle.terms.specs.declared.request.Request.{Request}
 use Rattle.terms.specs.Words.{is_pending}
@@ -7,9 +7,9 @@ use Rattle.journal.specs.declared.line.Line.{Line}
 use Rattle.journal.specs.declared.line.LineKind.TheVariants.{Superseded}
 use Rattle.shelf.specs.declared.defender.Defender.{Defender}
 use Rattle.journal.specs.Accounts.{NeverBelowZero}
-use Rattle.law.specs.View.{View, Entry, aref_of, start_of, length_of, living}
+use Rattle.law.specs.View.{Entry, aref_of, start_of, length_of, living}
 use Rattle.law.specs.Posting.{post, by_day, holding}
-use Rattle.law.specs.Preemption.{short, meets_shortage, supersede}
+use Rattle.law.specs.Preemption.{meets_shortage, supersede}
 use Rattle.law.proofs.ShrinkingShortage.{Later, later_refl, later_supersede}
 use Rattle.desk.specs.declared.memory.Desk.{Desk}
 use Rattle.desk.specs.declared.record.Record.{Record}

@@ -1,5 +1,5 @@
 -- What confirmed defenders give: on each day the lesser of what they hold and what is short.
-use Rattle.std.specs.Prelude.{◌≡◌, ℕ, ◌+◌, ◌<◌, ◌≤◌, min, Bool, true, false, cond, List, [], ◌∷◌, map, length, set, Some, None, Option, ◌≢◌, slice_set}
+use Rattle.std.specs.Prelude.{◌≡◌, ℕ, ◌+◌, ◌<◌, ◌≤◌, min, Bool, true, false, cond, List, [], ◌∷◌, map, length, Some, None, Option, ◌≢◌, slice_set}
 use Rattle.std.specs.List.{AllByRecursion}
 use Rattle.terms.specs.declared.request.Request.{Request}
 use Rattle.terms.specs.declared.words.State.TheVariants.{Challenged}

@@ -1,11 +1,10 @@
-use Rattle.std.proofs.Common.{◌≡◌, ℕ, ◌+◌, ◌*◌, true, length, get_or, set, sym, refl, ap, ◌∙◌, subst, arith}
+use Rattle.std.proofs.Common.{◌≡◌, ◌+◌, ◌*◌, true, length, get_or, set, sym, refl, ap, ◌∙◌, subst, arith}
 use Rattle.std.specs.List.{AllByRecursion}
 use Rattle.std.proofs.lemmas.List.{length-map}
 use Rattle.law.specs.View.{View, nobody, living}
 use Rattle.law.specs.Keeps.{Termed}
 use Rattle.law.specs.Places.{due_at, in_state}
 use Rattle.law.specs.Calls.{close_if_last}
-use Rattle.desk.specs.Desks.{view}
 use Rattle.desk.specs.Records.{entry_of}
 use Rattle.posting.specs.Sides.{place}
 use Rattle.moving.specs.Midway.{with_places}

@@ -1,11 +1,9 @@
 use Rattle.std.proofs.Common.{◌+◌, ◌-◌, ◌<◌, ◌≤◌, min, List, length, get_or, ap, ◌∙◌, subst, arith, rules}
-use Rattle.std.proofs.lemmas.List.{take_all, length-map}
+use Rattle.std.proofs.lemmas.List.{take_all}
 use Rattle.shelf.specs.Contents.{contents}
 use Rattle.shelf.specs.declared.defender.Defender.{Defender}
 use Rattle.desk.specs.declared.memory.Desk.{Desk}
 use Rattle.desk.specs.Desks.{view}
-use Rattle.desk.specs.Records.{entry_of}
-use Rattle.desk.specs.Soundness.{Sound}
 use Rattle.defending.specs.LinedUp.{lined}
 use Rattle.defending.proofs.BusyDays.{busy_few}
 use Rattle.defending.proofs.CountingLines.{Counted, counted_none, counted_all, few_written}

@@ -1,6 +1,6 @@
-use Rattle.std.proofs.Common.{◌≡◌, ◌+◌, ◌-◌, ◌<◌, ◌≤◌, length, sym, refl, ap, ◌∙◌, subst, arith}
+use Rattle.std.proofs.Common.{length, sym, ap, ◌∙◌, arith}
 use Rattle.std.proofs.lemmas.List.{length-map, length-take-le}
-use Rattle.law.specs.Calls.{Answer, done, submit}
+use Rattle.law.specs.Calls.{done, submit}
 use Rattle.law.specs.View.{View}
 use Rattle.desk.specs.Desks.{view}
 use Rattle.desk.specs.Records.{entry_of}

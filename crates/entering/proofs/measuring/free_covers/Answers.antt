@@ -1,4 +1,4 @@
-use Rattle.std.proofs.Common.{◌≡◌, ℕ, ◌+◌, leb, sym, ◌∙◌, arith}
+use Rattle.std.proofs.Common.{◌+◌, leb, sym, ◌∙◌, arith}
 use Rattle.std.proofs.lemmas.Bool.{le-leb, lt-leb}
 use Rattle.law.specs.Posting.{free_on}
 use Rattle.law.specs.Preemption.{wanted}

@@ -1,7 +1,7 @@
 use Rattle.std.proofs.Common.{ℕ, refl, ap, ◌∙◌}
 use Rattle.terms.specs.declared.words.State.TheVariants.{Confirmed}
 use Rattle.law.specs.Places.{change, stand_confirmed}
-use Rattle.law.specs.Calls.{Made, makes, confirm, written}
+use Rattle.law.specs.Calls.{makes, confirm, written}
 use Rattle.desk.specs.Desks.{view}
 use Rattle.moving.proofs.FromSound.{showing_of}
 use Rattle.later.proofs.OneCall.{stepped, in_places, lives, named}

@@ -1,9 +1,8 @@
-use Rattle.std.proofs.Common.{◌≡◌, set, sym, refl, ap, ◌∙◌, arith}
+use Rattle.std.proofs.Common.{set, ap, ◌∙◌, arith}
 use Rattle.law.specs.View.{Entry}
 use Rattle.desk.specs.Desks.{view}
 use Rattle.posting.specs.Sides.{place}
 use Rattle.posting.specs.Sides.{unread}
-use Rattle.defending.specs.LinedUp.{entry_at}
 use Rattle.moving.specs.Midway.{with_places}
 use Rattle.preempting.specs.Giving.{challenged_by}
 use Rattle.preempting.proofs.ChallengeOpens.{challenged_shows, challenged_once}

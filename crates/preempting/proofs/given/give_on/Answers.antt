@@ -1,11 +1,11 @@
-use Rattle.std.proofs.Common.{◌≡◌, ℕ, ◌+◌, ◌-◌, ◌<◌, ◌≤◌, min, ◌⊎◌, length, get_or, set, sym, refl, ap, ◌∙◌, subst, inl, inr, arith}
+use Rattle.std.proofs.Common.{ℕ, ◌+◌, ◌-◌, ◌<◌, ◌≤◌, min, ◌⊎◌, get_or, sym, ap, ◌∙◌, subst, inl, inr, arith}
 use Rattle.journal.specs.declared.line.LineKind.{LineKind}
 use Rattle.law.specs.Posting.{post}
 use Rattle.desk.specs.Desks.{view}
 use Rattle.posting.specs.declared.sides.Side.{Side}
 use Rattle.posting.specs.declared.sides.Side.TheVariants as sides
 use Rattle.posting.specs.Postable.{Postable, with_lines}
-use Rattle.preempting.specs.Giving.{given_kind, given_on, taker_side}
+use Rattle.preempting.specs.Giving.{given_kind}
 use Rattle.preempting.specs.Visits.{ShortShown}
 use Rattle.preempting.proofs.GivenDay.{giver_reached, nothing_given, posts_it, given_postable, given_midway, given_short, sum_less}
 use Rattle.preempting.proofs.given.give_on.Goals as goal

@@ -1,9 +1,7 @@
-use Rattle.std.proofs.Common.{◌≡◌, ◌+◌, ◌<◌, ◌≤◌, List, length, take, sym, refl, ap, ◌∙◌, subst, arith}
+use Rattle.std.proofs.Common.{◌≡◌, ◌+◌, ◌<◌, length, take, sym, ap, ◌∙◌, subst, arith}
 use Rattle.std.proofs.lemmas.List.{length-map}
-use Rattle.journal.specs.declared.line.Line.{Line}
 use Rattle.shelf.specs.Contents.{contents}
 use Rattle.law.specs.View.{View, Entry}
-use Rattle.law.proofs.ShrinkingShortage.{later_supersede}
 use Rattle.desk.specs.Desks.{view}
 use Rattle.posting.specs.Postable.{with_lines}
 use Rattle.defending.specs.LinedUp.{lined, entry_at}
