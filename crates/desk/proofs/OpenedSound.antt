@@ -55,7 +55,7 @@ module _ (d : Desk) (days : Days) (places : ℕ) (rest : List Line) (fit : Fit d
     };
   }
 
-goes_on : (passed : Bool) (refusal : Refusal) (rest : Option Refusal) → unless passed refusal rest ≡ None → (passed ≡ true) × (rest ≡ None)
+pub goes_on : (passed : Bool) (refusal : Refusal) (rest : Option Refusal) → unless passed refusal rest ≡ None → (passed ≡ true) × (rest ≡ None)
 goes_on true refusal rest h = (refl, h)
 goes_on false refusal rest h = absurd (let z : ◌≡◌ {A = ℕ} 0 1 = cc in omega arith)
 
