@@ -1,5 +1,6 @@
 #!/usr/bin/env python3
-"""Brings the names of goals and steps in proofs/ to the spelling of the source: what Rust calls gives_way, a goal calls gives_way.
+"""Brings the names of goals and steps in proofs/ to the spelling of the source: where the source has gives_way, a goal's name has
+gives_way too, no longer gives-way.
 
 usage: python3 tools/goal_names.py [CRATE..]       at the top of the repository, once, after tools/respell.py
 """
@@ -8,6 +9,7 @@ import os
 import re
 import sys
 
+# words that Rattle itself puts into the names of goals
 WORDS = ["overflow_add", "overflow_sub", "overflow_mul", "overflow_cast", "overflow_shl", "overflow_shr", "overflow_step", "slice_bounds", "offset_bounds", "invariant_of", "in_default"]
 
 
@@ -25,7 +27,7 @@ def source_names():
         with open(path, encoding="utf-8") as f:
             code = "\n".join(line.split("//")[0] for line in f if not line.lstrip().startswith("ghost use"))
         found |= set(re.findall(r"\b[a-z][a-z0-9]*(?:_[a-z0-9]+)+\b", code))
-    return sorted(found, key=len, reverse=True)
+    return found
 
 
 def main():

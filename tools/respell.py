@@ -3,8 +3,8 @@
 
 usage: python3 tools/respell.py        at the top of the repository, once, after the kit's port.py
 
-It goes through crates/: .antt files, the clauses of .rt files, must-fail edits, and names in backticks in the pages. Comments,
-strings and names that Rattle makes are left as they are.
+It goes through crates/: .antt files, .rt files, must-fail edits, and names in backticks in the pages. Comments and strings are
+left as they are.
 """
 
 import os
