@@ -1,13 +1,16 @@
 // The bid sheet: point-to-point service ranked by product, length, commitment and price, challenged in the morning.
 #![tactic(auto)]
 
-ghost use Rattle.std.specs.Prelude.{◌≡◌};
+ghost use Rattle.std.specs.Prelude.{◌≡◌, not};
+ghost use Rattle.terms.specs.Standings.{committed};
+ghost use Rattle.terms.specs.Words.{is_pending};
 ghost use Rattle.bid.specs.Bid.{bid, bid_until, bid_open_until};
 ghost use Rattle.terms.specs.Days.{days_of};
 ghost use Rattle.bid.specs.BidLaws.{bid_lawful};
 
 use sheets::RuleSheet;
 use sheets::minutes::not_past;
+use std::cmp::Reverse;
 use terms::posted::{Posted, day_of, first_minute, minute_of_day};
 use terms::request::{Request, Standing};
 use terms::words::{Product, State};
@@ -38,6 +41,27 @@ impl Bid {
     }
 }
 
+// What a record's turn goes by: the first difference decides, and the lower goes first.
+fn rank(one: &Standing) -> (bool, Product, u32, bool, u32, Reverse<u32>, Reverse<u32>)
+    ensures pending { result.0 ≡ not (is_pending one.now.state) }
+    ensures product { result.1 ≡ one.now.request.product }
+    ensures length { result.2 ≡ one.now.request.length }
+    ensures committed { result.3 ≡ committed one.now }
+    ensures price { result.4 ≡ one.now.request.price }
+    ensures queued { result.5.0 ≡ one.now.queued }
+    ensures aref { result.6.0 ≡ one.now.request.aref }
+{
+    (
+        !one.state.is_pending(),
+        one.request.product,
+        one.request.length,
+        one.is_committed(),
+        one.request.price,
+        Reverse(one.queued),
+        Reverse(one.request.aref),
+    )
+}
+
 impl RuleSheet for Bid {
     ghost rules = { λ _. bid };
 
@@ -52,36 +76,18 @@ impl RuleSheet for Bid {
         if !challenger.preconfirmed || d.kind.is_network() || challenger.kind.is_network() {
             return false;
         }
-        if challenger.product.number() != d.product.number() {
-            return challenger.product.number() > d.product.number();
-        }
-        if challenger.length != d.length {
-            return challenger.length > d.length;
-        }
-        !defender.is_committed() || challenger.price > d.price
+        let own = (
+            challenger.product,
+            challenger.length,
+            challenger.preconfirmed,
+            challenger.price,
+        );
+        (d.product, d.length, defender.is_committed(), d.price) < own
     }
 
     // Pending first, then the lower product, length, commitment and price, the later queue minute, the higher AREF.
     fn gives_before(&self, one: &Standing, other: &Standing) -> bool {
-        if one.state.is_pending() != other.state.is_pending() {
-            return one.state.is_pending();
-        }
-        if one.request.product.number() != other.request.product.number() {
-            return one.request.product.number() < other.request.product.number();
-        }
-        if one.request.length != other.request.length {
-            return one.request.length < other.request.length;
-        }
-        if one.is_committed() != other.is_committed() {
-            return other.is_committed();
-        }
-        if one.request.price != other.request.price {
-            return one.request.price < other.request.price;
-        }
-        if one.queued != other.queued {
-            return one.queued > other.queued;
-        }
-        one.request.aref > other.request.aref
+        rank(one) < rank(other)
     }
 
     fn may_match(&self, challenger: &Request, defender: &Standing) -> bool {

@@ -7,9 +7,10 @@ ghost use Rattle.desk.specs.Desks.{view, refusal_over, OpenedOver};
 ghost use Rattle.desk.specs.Soundness.{Sound};
 ghost use Rattle.law.specs.View.{posted_on};
 
-use desk::memory::{Desk, Memory};
+use desk::memory::Memory;
 use desk::sums::Sums;
 use journal::line::Line;
+use moving::ledger::Ledger;
 use sheets::RuleSheet;
 use terms::refusal::Refusal;
 
@@ -17,8 +18,8 @@ use terms::refusal::Refusal;
 #[derive(Drop)]
 pub struct Book<'a, S: RuleSheet> {
     sheet: S,
-    desk: Desk<'a>,
-    ghost sound: { ∥ Sound desk ∥₁ },
+    ledger: Ledger<'a>,
+    ghost sound: { ∥ Sound ledger.desk ∥₁ },
 }
 
 impl<'a, S: RuleSheet> Book<'a, S> {
@@ -26,24 +27,27 @@ impl<'a, S: RuleSheet> Book<'a, S> {
     // places or lines.
     pub fn open(sheet: S, memory: Memory<'a>) -> Book<'a, S>
         ensures sheet { result.sheet ≡ sheet }
-        ensures memory { OpenedOver memory.entry result.desk (refusal_over memory.entry) }
+        ensures memory { OpenedOver memory.entry result.ledger.desk (refusal_over memory.entry) }
     {
         let desk = memory.open();
-        Book { sheet, desk }
+        Book {
+            sheet,
+            ledger: Ledger { desk },
+        }
     }
 
     // The journal so far, line for line.
     pub fn journal(&self) -> &[Line]
-        ensures { result.now ≡ (view self.now.desk).lines }
+        ensures { result.now ≡ (view self.now.ledger.desk).lines }
     {
-        self.desk.journal()
+        self.ledger.desk.journal()
     }
 
     // The four sums of a posted day, equal to the journal's accounts; they come to what was posted.
     pub fn sums(&self, day: u32) -> Result<Sums, Refusal>
-        ensures value { result ≡ sums_of (view self.now.desk) day }
-        ensures whole { ComeTo (posted_on (view self.now.desk).days day) result }
+        ensures value { result ≡ sums_of (view self.now.ledger.desk) day }
+        ensures whole { ComeTo (posted_on (view self.now.ledger.desk).days day) result }
     {
-        self.desk.sums(day)
+        self.ledger.desk.sums(day)
     }
 }

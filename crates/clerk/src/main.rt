@@ -5,12 +5,8 @@ mod opening;
 mod telling;
 mod week;
 
-fn run(rt: &HostRuntime) -> anyhow::Result<()> {
-    opening::tell(rt)?;
-    println!(rt; "")?;
-    week::tell(rt)
-}
-
 fn main(rt: HostRuntime) -> anyhow::Result<()> {
-    run(&rt)
+    opening::tell(&rt)?;
+    println!(rt)?;
+    week::tell(&rt)
 }

@@ -1,6 +1,5 @@
-// How the clerk says things: last minutes with their day and time of day, states and answers as words.
+// How the clerk says things: last minutes with their day and time of day, and answers as words.
 use std::fmt;
-use terms::words::{Product, State};
 
 // The last minute of a span, with its day and time of day; a dash where there is none.
 #[derive(Clone, Copy)]
@@ -20,25 +19,12 @@ impl fmt::Display for Until {
     }
 }
 
-pub(crate) fn state_word(state: State) -> &'static str {
-    match state {
-        State::Confirmed => "confirmed",
-        State::Accepted => "accepted",
-        State::Offered => "offered",
-        State::Competing => "competing",
-        State::Challenged => "challenged",
-        State::Gone => "gone",
-    }
-}
+// A yes or a no.
+#[derive(Clone, Copy)]
+pub struct YesNo(pub bool);
 
-pub(crate) fn product_word(product: Product) -> &'static str {
-    match product {
-        Product::Daily => "daily",
-        Product::Weekly => "weekly",
-        Product::Monthly => "monthly",
+impl fmt::Display for YesNo {
+    fn fmt<W: fmt::Write>(&self, f: &mut fmt::Formatter<W>) -> fmt::Result {
+        f.pad(if self.0 { "yes" } else { "no" })
     }
-}
-
-pub(crate) fn yes_or_no(yes: bool) -> &'static str {
-    if yes { "yes" } else { "no" }
 }

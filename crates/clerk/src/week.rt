@@ -1,9 +1,9 @@
 // The second owner's week, when the line is full: a confirmed reservation and a pending request hold it, and a longer
 // request arrives.
-use crate::telling::{Until, product_word, state_word, yes_or_no};
-use anyhow::anyhow;
-use findings::{find, turn_among};
+use crate::telling::{Until, YesNo};
+use findings::{Finding, find, turn_among};
 use firm::Firm;
+use std::io;
 use terms::posted::Posted;
 use terms::request::{Request, RequestForm, Standing};
 use terms::words::State;
@@ -28,113 +28,101 @@ fn daily_form(aref: u32, length: u32, mw: u32, preconfirmed: u32) -> RequestForm
     }
 }
 
-// Checks a form, and tells how that went.
-fn taken_in(rt: &HostRuntime, form: RequestForm) -> anyhow::Result<Option<Request>> {
-    let aref = form.aref;
-    let length = form.length;
-    let mw = form.mw;
-    let mark = yes_or_no(form.preconfirmed == 1);
-    print!(rt; "  AREF {aref}: {mw} MW for {length} days from day 7, preconfirmed {mark}: ")?;
+// Tells of a form as it comes, and how its check goes.
+fn tell_form(rt: &impl Print, form: RequestForm) -> io::Result<()> {
+    let RequestForm {
+        aref,
+        start,
+        length,
+        mw,
+        preconfirmed,
+        ..
+    } = form;
+    let mark = YesNo(preconfirmed == 1);
+    print!(rt; "  AREF {aref}: {mw} MW for {length} days from day {start}, preconfirmed {mark}: ")?;
     match form.check() {
-        Ok(checked) => {
-            println!(rt; "checked")?;
-            Ok(Some(checked.into_request()))
-        }
-        Err(refusal) => {
-            let number = refusal.number();
-            println!(rt; "refused, number {number}")?;
-            Ok(None)
-        }
+        Ok(_) => println!(rt; "checked"),
+        Err(refusal) => println!(rt; "{refusal}"),
     }
 }
 
-fn tell_record(
-    rt: &HostRuntime,
-    challenger: &Request,
-    one: &Standing,
-    records: &[Standing],
-    posted: &Posted,
-) -> anyhow::Result<()> {
-    let finding = find(challenger, one, NOW, posted);
-    let turn = turn_among(&Firm, one, records);
+fn tell_record(rt: &impl Print, one: &Standing, turn: usize, finding: &Finding) -> io::Result<()> {
     let aref = one.request.aref;
-    let state = state_word(one.state);
-    let outranked = yes_or_no(finding.outranked);
+    let state = one.state;
+    let outranked = YesNo(finding.outranked);
     let open = Until(finding.open_until);
-    let may_match = yes_or_no(finding.match_until.is_some());
+    let may_match = YesNo(finding.match_until.is_some());
     let matched = Until(finding.match_until);
     println!(rt;
         "  {turn:>4}  {aref:>4}  {state:<10}  {outranked:<9}  {open}  {may_match:<9}  {matched}"
-    )?;
-    Ok(())
+    )
 }
 
-// Says in words who is the first to give.
-fn tell_first(rt: &HostRuntime, records: &[Standing]) -> anyhow::Result<()> {
-    for one in records {
-        if turn_among(&Firm, one, records) == 1 {
-            let state = state_word(one.state);
-            let how = if one.state.is_pending() {
-                "whole and without a match"
-            } else {
-                "what is short"
-            };
-            println!(rt; "")?;
-            println!(rt; "AREF {}, {state}, gives first, {how}.", one.request.aref)?;
-        }
-    }
-    Ok(())
+// Says in words how the first to give does so.
+fn tell_first(rt: &impl Print, first: &Standing) -> io::Result<()> {
+    let aref = first.request.aref;
+    let state = first.state;
+    let how = if state.is_pending() {
+        "whole and without a match"
+    } else {
+        "what is short"
+    };
+    println!(rt)?;
+    println!(rt; "AREF {aref}, {state}, gives first, {how}.")
 }
 
-fn tell_turns(rt: &HostRuntime, challenger: &Request, records: &[Standing]) -> anyhow::Result<()> {
+// Tells of the records, which come in the order in which they give, against a challenger.
+fn tell_turns(rt: &impl Print, challenger: &Request, in_turn: &[Standing]) -> io::Result<()> {
     let posted = Posted {
         amounts: &AMOUNTS,
         preschedule: &PRESCHEDULE,
     };
     let in_time = Until(Firm.in_time_until(challenger, &posted));
-    let product = product_word(challenger.product);
-    println!(rt; "")?;
+    let aref = challenger.aref;
+    let product = challenger.product;
+    println!(rt)?;
     println!(rt;
-        "AREF {} challenges at minute {NOW}; with {product} service it is in time until {in_time}.",
-        challenger.aref
+        "AREF {aref} challenges at minute {NOW}; with {product} service it is in time until {in_time}."
     )?;
     println!(rt; "Who gives way to it, in turn:")?;
-    println!(rt; "")?;
+    println!(rt)?;
     println!(rt; "  turn  AREF  state       outranked  open until          may match  until")?;
-    for turn in 1..=records.len() {
-        for one in records {
-            if turn_among(&Firm, one, records) == turn {
-                tell_record(rt, challenger, one, records, &posted)?;
-            }
-        }
+    for one in in_turn {
+        let turn = turn_among(&Firm, one, in_turn);
+        tell_record(rt, one, turn, &find(challenger, one, NOW, &posted))?;
     }
-    tell_first(rt, records)
+    if let Some(first) = in_turn.first() {
+        tell_first(rt, first)?;
+    }
+    Ok(())
 }
 
 // Tells the week from beginning to end.
-pub(crate) fn tell(rt: &HostRuntime) -> anyhow::Result<()> {
+pub(crate) fn tell(rt: &impl Print) -> anyhow::Result<()> {
+    let holder = daily_form(101, 3, 100, 0);
+    let asker = daily_form(102, 3, 50, 0);
+    let challenger = daily_form(103, 5, 50, 1);
+    let too_long = daily_form(104, 32, 50, 1);
     println!(rt;
         "The second owner's week: a line of 150 MW with firm service, full on days 7 to 9."
     )?;
     println!(rt; "Requests as they come:")?;
-    let holder = taken_in(rt, daily_form(101, 3, 100, 0))?;
-    let asker = taken_in(rt, daily_form(102, 3, 50, 0))?;
-    let challenger = taken_in(rt, daily_form(103, 5, 50, 1))?;
-    let _ = taken_in(rt, daily_form(104, 32, 50, 1))?;
-    let (Some(holder), Some(asker), Some(challenger)) = (holder, asker, challenger) else {
-        return Err(anyhow!("a request of the week was refused"));
-    };
+    for form in [holder, asker, challenger, too_long] {
+        tell_form(rt, form)?;
+    }
     let confirmed = Standing {
-        request: holder,
+        request: holder.check()?.into_request(),
         state: State::Confirmed,
         queued: 600,
     };
     let pending = Standing {
-        request: asker,
+        request: asker.check()?.into_request(),
         state: State::Accepted,
         queued: 1_440,
     };
     let records = [confirmed, pending];
-    tell_turns(rt, &challenger, &records)?;
+    let mut in_turn = records;
+    in_turn.sort_unstable_by_key(|one| turn_among(&Firm, one, &records));
+    tell_turns(rt, &challenger.check()?.into_request(), &in_turn)?;
     Ok(())
 }

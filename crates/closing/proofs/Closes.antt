@@ -20,7 +20,8 @@ use Rattle.posting.specs.Sides.{place}
 use Rattle.moving.specs.Midway.{Midway}
 use Rattle.restating.proofs.SameRecord.{there_is, early_term}
 use Rattle.admitting.proofs.AtPlace.{Sought, none_changed, change_at}
-use Rattle.closing.specs.LastClosed.{due_of, ToClose, ClosesAt}
+use Rattle.sheets.specs.FallingDue.{due_of}
+use Rattle.closing.specs.LastClosed.{ToClose, ClosesAt}
 
 not_found : (a : ℕ) (es : List Entry) → living (find a es) ≡ false → count a es ≤ 0
 unfolding find count

@@ -1,17 +1,10 @@
 -- A challenger whose last match has closed.
-use Rattle.std.specs.Prelude.{◌≡◌, ℕ, ◌+◌, ◌<◌, true, false, cond, List, length, Some, None, Option, slice_index_or}
-use Rattle.terms.specs.declared.request.Standing.{Standing}
-use Rattle.terms.specs.Days.{first_minute}
-use Rattle.terms.specs.Words.{is_pending}
+use Rattle.std.specs.Prelude.{◌≡◌, ℕ, ◌<◌, true, false, List, length, Some, None, Option, slice_index_or}
 use Rattle.sheets.specs.Rules.{Rules}
 use Rattle.journal.specs.declared.line.Line.{Line}
 use Rattle.law.specs.View.{Entry, is, nobody}
 use Rattle.law.specs.Places.{match_open}
 use Rattle.law.specs.Calls.{close_if_last}
-
--- when a record that now stands so falls due: a pending one a confirm time later, any other when its last day is over
-abbrev pub due_of : Rules → ℕ → Standing → ℕ
-due_of R minute d = cond (is_pending d.state) (minute + R.confirm_time d) (first_minute (d.request.start + d.request.length))
 
 -- no match is open any more, and the challenger stands in a place
 pub record ToClose (es : List Entry) (b j : ℕ) : Type 0 where

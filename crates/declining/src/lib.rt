@@ -10,15 +10,15 @@ ghost use Rattle.desk.specs.Soundness.{Sound};
 ghost use Rattle.law.specs.Calls.{declined};
 ghost use Rattle.law.specs.Keeps.{Termed};
 ghost use Rattle.law.specs.View.{living, nobody};
-ghost use Rattle.moving.specs.Midway.{Midway};
-ghost use Rattle.posting.specs.Postable.{Showing, with_lines};
+ghost use Rattle.posting.specs.Postable.{with_lines};
 
 use answers::Done;
 use closing::close_if_last;
 use desk::memory::Desk;
 use journal::line::LineKind;
 use looking::place_of;
-use moving::{Move, count_busy, move_by_day};
+use moving::Move;
+use moving::ledger::Ledger;
 use posting::sides::Side;
 use restating::{holds_nothing, restate};
 use sheets::RuleSheet;
@@ -29,24 +29,20 @@ use terms::words::State;
 fn challenger_place(desk: &Desk, against: u32) -> usize
     ensures { PlaceOf (view desk.now).places against result }
 {
-    match place_of(desk.places, against) {
-        Some(j) => j,
-        None => 0,
-    }
+    place_of(desk.places, against).unwrap_or(0)
 }
 
 // Moves what was set aside of the record in a place to its challenger.
-fn lose(desk: &mut Desk, minute: u32, i: usize)
-    requires sound { Sound desk.old }
-    requires within { i < length desk.old.places.now }
-    requires lives { living (slice_index_or (view desk.old).places i nobody) ≡ true }
-    requires roomy { length (lost minute (slice_index_or (view desk.old).places i nobody) (view desk.old).lines) ≤ (view desk.old).room }
-    ensures midway { Midway desk.new }
-    ensures view { view desk.new ≡ with_lines (view desk.old) (lost minute (slice_index_or (view desk.old).places i nobody) (view desk.old).lines) }
+fn lose(ledger: &mut Ledger, minute: u32, i: usize)
+    requires sound { Sound ledger.old.desk }
+    requires within { i < length ledger.old.desk.places.now }
+    requires lives { living (slice_index_or (view ledger.old.desk).places i nobody) ≡ true }
+    requires roomy { length (lost minute (slice_index_or (view ledger.old.desk).places i nobody) (view ledger.old.desk).lines) ≤ (view ledger.old.desk).room }
+    ensures view { view ledger.new.desk ≡ with_lines (view ledger.old.desk) (lost minute (slice_index_or (view ledger.old.desk).places i nobody) (view ledger.old.desk).lines) }
 {
-    let request = desk.places[i].standing.request;
-    let against = desk.places[i].against;
-    let j = challenger_place(desk, against);
+    let request = ledger.desk.places[i].standing.request;
+    let against = ledger.desk.places[i].against;
+    let j = challenger_place(&ledger.desk, against);
     let all = Move {
         minute,
         kind: LineKind::Lost,
@@ -56,18 +52,17 @@ fn lose(desk: &mut Desk, minute: u32, i: usize)
         taker: Side::Held(j),
         most: 20_000,
     };
-    move_by_day(desk, all, request.start, request.length);
+    ledger.move_by_day(all, request.start, request.length);
 }
 
 // What a record is that has lost what was set aside of it.
-fn left_as(desk: &Desk, i: usize) -> State
-    requires midway { Midway desk.now }
-    requires within { i < length desk.now.places.now }
-    requires lives { living (slice_index_or (view desk.now).places i nobody) ≡ true }
-    requires term { Termed (view desk.now).days (slice_index_or (view desk.now).places i nobody) }
-    ensures { result ≡ left_as (view desk.now).lines (slice_index_or (view desk.now).places i nobody) }
+fn left_as(ledger: &Ledger, i: usize) -> State
+    requires within { i < length ledger.now.desk.places.now }
+    requires lives { living (slice_index_or (view ledger.now.desk).places i nobody) ≡ true }
+    requires term { Termed (view ledger.now.desk).days (slice_index_or (view ledger.now.desk).places i nobody) }
+    ensures { result ≡ left_as (view ledger.now.desk).lines (slice_index_or (view ledger.now.desk).places i nobody) }
 {
-    if holds_nothing(desk, i) {
+    if holds_nothing(ledger, i) {
         return State::Gone;
     }
     State::Confirmed
@@ -75,31 +70,30 @@ fn left_as(desk: &Desk, i: usize) -> State
 
 // The record in a place declines to match: its challenger gets what was set aside, and closes if that was the last match.
 pub fn decline_at<S: RuleSheet>(
-    desk: &mut Desk,
+    ledger: &mut Ledger,
     sheet: &S,
     minute: u32,
     i: usize,
 ) -> Result<Done, Refusal>
-    requires sound { Sound desk.old }
-    requires few_lines { length desk.old.lines.now ≤ 65536 }
-    requires within { i < length desk.old.places.now }
-    requires lives { living (slice_index_or (view desk.old).places i nobody) ≡ true }
+    requires sound { Sound ledger.old.desk }
+    requires few_lines { length ledger.old.desk.lines.now ≤ 65536 }
+    requires within { i < length ledger.old.desk.places.now }
+    requires lives { living (slice_index_or (view ledger.old.desk).places i nobody) ≡ true }
     requires early { minute ≤ 1000000 }
-    ensures shown { Showing desk.new }
-    ensures says { Writes (view desk.old) minute (declined (S.rules sheet.now) minute (slice_index_or (view desk.old).places i nobody) (view desk.old)) (told result) (view desk.new) }
+    ensures says { Writes (view ledger.old.desk) minute (declined (S.rules sheet.now) minute (slice_index_or (view ledger.old.desk).places i nobody) (view ledger.old.desk)) (told result) (view ledger.new.desk) }
 {
-    let first = desk.used;
-    let request = desk.places[i].standing.request;
-    let against = desk.places[i].against;
-    let count = count_busy(desk, Side::Aside(i), request.start, request.length);
-    if count as usize > desk.lines.len() - first {
+    let first = ledger.desk.used;
+    let request = ledger.desk.places[i].standing.request;
+    let against = ledger.desk.places[i].against;
+    let count = ledger.count_busy(Side::Aside(i), request.start, request.length);
+    if count as usize > ledger.desk.lines.len() - first {
         return Err(Refusal::JournalFull);
     }
-    lose(desk, minute, i);
-    let state = left_as(desk, i);
-    restate(desk, i, state, 1_440 * (request.start + request.length));
-    close_if_last(desk, sheet, minute, against);
-    desk.clock = minute;
+    lose(ledger, minute, i);
+    let state = left_as(ledger, i);
+    restate(ledger, i, state, request.over_minute());
+    close_if_last(ledger, sheet, minute, against);
+    ledger.desk.clock = minute;
     Ok(Done {
         aref: request.aref,
         state,

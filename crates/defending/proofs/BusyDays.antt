@@ -1,6 +1,8 @@
 -- On how many days there is something.
-use Rattle.std.proofs.Common.{◌≡◌, ℕ, zero, suc, ◌+◌, ◌<◌, ◌≤◌, Bool, true, false, cond, eqb, ◌⊎◌, sym, refl, ap, ◌∙◌, subst, inl, inr, add-one, arith}
-use Rattle.std.proofs.lemmas.Bool.{eq-eqb, ne_eqb, eqb-true, eqb-false, cases_eq, cases_lt, cases_Bool}
+use Rattle.std.proofs.Common.{◌≡◌, ℕ, zero, suc, ◌+◌, ◌<◌, ◌≤◌, Bool, true, false, cond, eqb, ltb, ◌⊎◌, List, [], ◌∷◌, length, get_or, take, count_by, sym, refl, ap, ◌∙◌, subst, inl, inr, add-one, arith}
+use Rattle.std.proofs.lemmas.Bool.{lt-ltb, le-ltb, eq-eqb, ne_eqb, eqb-true, eqb-false, cases_eq, cases_lt, cases_Bool}
+use Rattle.std.proofs.lemmas.List.{get_or-take, length-take-le}
+use Rattle.std.proofs.lemmas.List.Sums.{sum_by-cons}
 use Rattle.law.specs.Posting.{each_day, busy_days}
 use Rattle.law.proofs.ShrinkingShortage.{each_true, each_false}
 
@@ -79,6 +81,29 @@ busy_front f s n =
     let z : s + 0 ≡ s = omega arith in
     let o : s + 1 ≡ suc s = omega arith in
     ap (busy_days f s) e ∙ (busy_split f s 1 n ∙ (ap (λ k. 0 + cond (eqb (f k) 0) 0 1 + busy_days f (s + 1) n) z ∙ (ap (λ k. 0 + cond (eqb (f s) 0) 0 1 + busy_days f k n) o ∙ omega arith)))
+
+one_day : (mw : ℕ) → ◌≡◌ {A = ℕ} (cond (ltb 0 mw) 1 0) (cond (eqb mw 0) 0 1)
+one_day mw = go (cases_lt 0 mw)
+  where
+    go : (0 < mw) ⊎ (mw ≤ 0) → ◌≡◌ {A = ℕ} (cond (ltb 0 mw) 1 0) (cond (eqb mw 0) 0 1)
+    go (inl some) = rw (lt-ltb 0 mw some, ne_eqb mw 0 (λ (e : mw ≡ 0). omega arith)) refl
+    go (inr none) = rw (le-ltb 0 mw none, eq-eqb mw 0 (omega arith)) refl
+
+-- of amounts by day, those above 0
+pub busy_amounts : (amounts : List ℕ) → count_by (λ mw. ltb 0 mw) amounts ≡ busy_days (λ k. get_or amounts k 0) 0 (length amounts)
+unfolding busy_days
+busy_amounts [] = refl
+busy_amounts (mw ∷ later) =
+    let n = length later in
+    let first = one_day mw in
+    let rest = busy_shift (λ k. get_or (mw ∷ later) k 0) (λ k. get_or later k 0) (suc 0) 0 n (λ k h. let e : suc 0 + k ≡ suc (0 + k) = omega arith in ap (λ i. get_or (mw ∷ later) i 0) e) in
+    omega (arith, sum_by-cons (λ x. cond (ltb 0 x) 1 0) mw later, first, busy_amounts later, rest, busy_front (λ k. get_or (mw ∷ later) k 0) 0 n)
+
+-- of the first n amounts
+pub busy_first : (amounts : List ℕ) (n : ℕ) → n ≤ length amounts → busy_days (λ k. get_or (take n amounts) k 0) 0 (length (take n amounts)) ≡ busy_days (λ k. get_or amounts k 0) 0 n
+busy_first amounts n h =
+    ap (busy_days (λ k. get_or (take n amounts) k 0) 0) (length-take-le n amounts h)
+    ∙ busy_shift _ _ 0 0 n (λ k l. get_or-take n amounts (0 + k) 0 (omega arith))
 
 -- days outside of which there is nothing, among more days
 busy_among : (f : ℕ → ℕ) (s n rest : ℕ) → ((k : ℕ) → 0 < f k → (s ≤ k) × (k < s + n)) → busy_days f 0 (s + n + rest) ≡ busy_days f s n

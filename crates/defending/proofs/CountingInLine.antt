@@ -1,6 +1,6 @@
 -- The count of a preemption's lines over the records lined up on a shelf.
-use Rattle.std.proofs.Common.{◌≡◌, ℕ, ◌+◌, ◌-◌, ◌<◌, ◌≤◌, min, false, cond, List, [], ◌∷◌, ◌++◌, length, get_or, take, Some, sym, ap, ◌∙◌, subst, arith}
-use Rattle.std.specs.List.{slice_get}
+use Rattle.std.proofs.Common.{◌≡◌, ℕ, ◌+◌, ◌-◌, ◌<◌, ◌≤◌, min, false, cond, List, [], ◌∷◌, ◌++◌, length, get_or, take, sym, ap, ◌∙◌, subst, arith}
+use Rattle.std.proofs.ByRecursion.{All-get_or}
 use Rattle.std.proofs.lemmas.List.{length-map, map_more}
 use Rattle.terms.specs.declared.words.Kind.TheVariants.{PointToPoint}
 use Rattle.terms.specs.declared.words.Product.TheVariants.{Daily}
@@ -18,7 +18,6 @@ use Rattle.defending.specs.LinedUp.{entry_at, lined, InPlaces}
 use Rattle.defending.specs.Shortage.{gives_whole, lines_written}
 use Rattle.defending.proofs.CountingLines.{Counted, counted_more}
 use Rattle.defending.proofs.LiningUp.{InPlace}
-use Rattle.defending.proofs.ShelfReads.{entry_is, entry_holds}
 use Rattle.defending.proofs.ShownInLine.{termed, held_is_holding, holds_in_term}
 use Rattle.defending.proofs.ShownInLine.{entry_is as record_is}
 
@@ -37,9 +36,9 @@ unread = record {
 }
 
 -- the entry that comes off after j others, and the record in its place
-module _ (d : Desk) (S : Sound d) (xs : List Defender) (there : InPlaces (view d).places xs) (j : ℕ) (here : j < length xs) (x : Defender) (read : Some x ≡ slice_get xs j) where
+module _ (d : Desk) (S : Sound d) (xs : List Defender) (there : InPlaces (view d).places xs) (j : ℕ) (here : j < length xs) (x : Defender) (read : x ≡ get_or xs j x) where
   stands : InPlace (view d).places x
-  stands = entry_holds xs j here x read (InPlace (view d).places) there
+  stands = subst (InPlace (view d).places) (sym read) (All-get_or (InPlace (view d).places) xs j x here there)
 
   pub in_a_place : x.place < length d.places.now
   in_a_place = omega (arith, stands.0, length-map d.places.now entry_of)
@@ -56,7 +55,7 @@ module _ (d : Desk) (S : Sound d) (xs : List Defender) (there : InPlaces (view d
 
     line_more : lined (view d).places (take (j + 1) xs) ≡ lined (view d).places (take j xs) ++ entry_of one ∷ []
     line_more = map_more (λ y. entry_at (view d).places y.place) xs j x here
-        ∙ ap (λ e. lined (view d).places (take j xs) ++ e ∷ []) (ap (λ y. entry_at (view d).places y.place) (sym (entry_is xs j here x read x)) ∙ is_one)
+        ∙ ap (λ e. lined (view d).places (take j xs) ++ e ∷ []) (ap (λ y. entry_at (view d).places y.place) (sym read) ∙ is_one)
 
     held : (day : ℕ) → held_on day one ≡ holding (view d).lines (aref_of (entry_of one)) day
     held day = held_is_holding d S x.place u in_a_place stands.1 day ∙ ap (λ e. holding (view d).lines (aref_of e) day) is_one

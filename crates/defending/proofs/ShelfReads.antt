@@ -1,23 +1,17 @@
--- What is read off a shelf, entry by entry.
-use Rattle.std.proofs.Common.{◌≡◌, ℕ, zero, suc, ◌+◌, ◌-◌, ◌<◌, List, [], ◌∷◌, length, get_or, take, Some, None, sum_by, ap, arith}
-use Rattle.std.specs.List.{AllByRecursion, slice_get}
-use Rattle.std.proofs.ByRecursion.{All-get_or}
-use Rattle.std.proofs.lemmas.Option.{slice_get-get_or}
-use Rattle.std.proofs.lemmas.List.Sums.{sum_by_more}
+-- The entries of a shelf, gone through in the order in which they come off.
+use Rattle.std.proofs.Common.{◌≡◌, ℕ, ◌-◌, List, [], ◌∷◌, Iter, map, sum_by, arith}
+use Rattle.std.specs.List.{AllByRecursion, fold}
+use Rattle.std.proofs.lemmas.List.Sums.{sum_by-cons}
+use Rattle.std.proofs.lemmas.Iterator.{YieldsList}
+use Rattle.std.specs.Iterator.Adapters.{rev_steps}
+use Rattle.std.specs.Slice.Iter.{iter_steps_back}
+use Rattle.std.specs.declared.iter.Rev.{Rev}
 
--- an entry comes off after j others where there are more
-pub never_none : {X : Type 0} (xs : List X) (j : ℕ) → j < length xs → None ≡ slice_get xs j → ⊥
-never_none [] j h e = omega arith
-never_none (x ∷ xs) zero h e = let z : ◌≡◌ {A = ℕ} 0 1 = cc in omega arith
-never_none (x ∷ xs) (suc j) h e = never_none xs j (omega arith) e
+-- a walk over the slots from the last to the first gives the entries in that order
+abbrev pub GoesThrough : {X : Type 0} → List X → Rev (Iter X) → Type 0
+GoesThrough xs walk = YieldsList (rev_steps iter_steps_back) (λ x. x.now) walk xs
 
-module _ {X : Type 0} (xs : List X) (j : ℕ) (here : j < length xs) (x : X) (read : Some x ≡ slice_get xs j) where
-  pub entry_is : (d : X) → x ≡ get_or xs j d
-  entry_is d = let n = slice_get-get_or xs j d here in cc
-
-  pub entry_holds : (P : X → Type 0) → AllByRecursion P xs → P x
-  entry_holds P h = rw (entry_is x) (All-get_or P xs j x here h)
-
-  -- what is left once one entry more is taken from it
-  pub less_by_one_more : (f : X → ℕ) (n m : ℕ) → m ≡ n - sum_by f (take j xs) → m - f x ≡ n - sum_by f (take (j + 1) xs)
-  less_by_one_more f n m h = omega (arith, sum_by_more f xs j x here, ap f (entry_is x))
+-- what is left once each entry's part is taken in turn
+pub taken_in_turn : {X : Type 0} (f g : X → ℕ) (xs : List X) → AllByRecursion (λ x. g x ≡ f x) xs → (n : ℕ) → fold (λ a b. a - b) n (map g xs) ≡ n - sum_by f xs
+taken_in_turn f g [] h n = omega arith
+taken_in_turn f g (x ∷ xs) h n = omega (arith, taken_in_turn f g xs h.1 (n - g x), h.0, sum_by-cons f x xs)

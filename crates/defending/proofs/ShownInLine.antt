@@ -74,5 +74,5 @@ module _ (d : Desk) (S : Sound d) where
       let rest = held_in_line day xs h.1 in
       omega (arith, sum_by-cons (held_in_place ps day) x xs)
 
-  pub free_is : (day : ℕ) → day < length d.amounts.now → get_or d.free.now day 0 ≡ balance (view d).lines free day
+  pub free_is : (day : ℕ) → day < length d.posted.amounts.now → get_or d.free.now day 0 ≡ balance (view d).lines free day
   free_is day h = S.shown.frees day (omega (arith, S.each_day))

@@ -19,28 +19,23 @@ pub fn left_short(places: &[Record], shelf: &Shelf<Defender>, day: u32, short: u
     requires { AllByRecursion (λ x. x.place < length places.now) (contents shelf.now) }
     ensures { result ≡ short - sum_by (held_in_place places.now day) (contents shelf.now) }
 {
-    let mut left = short;
-    for j in 0..shelf.len() {
-        if let Some(one) = shelf.at(j) {
-            left = left.saturating_sub(places[one.place].held_on(day));
-        }
-    }
-    left
+    shelf
+        .entries()
+        .iter()
+        .rev()
+        .map(|one| places[one.place].held_on(day))
+        .fold(short, u32::saturating_sub)
 }
 
 // Is the request met on each day of its term by what is free and what the records lined up hold?
 pub fn can_be_met(desk: &Desk, shelf: &Shelf<Defender>, request: &Request) -> bool
     requires sound { Sound desk.now }
     requires there { InPlaces (view desk.now).places (contents shelf.now) }
-    requires offered { request.now.start + request.now.length ≤ length desk.now.amounts.now }
+    requires offered { request.now.start + request.now.length ≤ length desk.now.posted.amounts.now }
     ensures { result ≡ each_day (λ day. nat_le (wanted request.now day) (free_on (view desk.now).lines day + holdings (view desk.now).lines (lined (view desk.now).places (contents shelf.now)) day)) request.now.start request.now.length }
 {
-    let places = &*desk.places;
-    for day in request.start..request.start + request.length {
+    (request.start..request.start + request.length).all(|day| {
         let short = request.mw.saturating_sub(desk.free[day as usize]);
-        if left_short(places, shelf, day, short) > 0 {
-            return false;
-        }
-    }
-    true
+        left_short(desk.places, shelf, day, short) == 0
+    })
 }

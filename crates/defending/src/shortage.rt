@@ -5,22 +5,28 @@ ghost use Rattle.desk.specs.Records.{held_on};
 ghost use Rattle.law.specs.Posting.{busy_days};
 
 use desk::memory::Desk;
-use desk::record::Record;
+use desk::record::{MOST_DAYS, Record};
 use terms::request::Request;
 
+// What is free, by day from the request's start on; past its term the amounts say nothing.
+pub(crate) fn free_by_day(desk: &Desk, request: &Request) -> [u32; MOST_DAYS]
+    requires offered { request.now.start + request.now.length ≤ length desk.now.free.now }
+    requires term { request.now.length ≤ 31 }
+    ensures { (k : ℕ) → k < request.now.length → slice_index result k ≡ slice_index desk.now.free.now (request.now.start + k) }
+{
+    let days = request.length as usize;
+    let mut free = [0; MOST_DAYS];
+    free[..days].copy_from_slice(&desk.free[request.start as usize..][..days]);
+    free
+}
+
 // What the MW are above what is free, by day from the request's start on.
-pub fn first_short(desk: &Desk, request: &Request) -> [u32; 31]
+pub fn first_short(desk: &Desk, request: &Request) -> [u32; MOST_DAYS]
     requires offered { request.now.start + request.now.length ≤ length desk.now.free.now }
     requires term { request.now.length ≤ 31 }
     ensures { (k : ℕ) → k < request.now.length → slice_index result k ≡ request.now.mw - slice_index desk.now.free.now (request.now.start + k) }
 {
-    let mut short = [0; 31];
-    for k in 0..request.length as usize {
-        short[k] = request
-            .mw
-            .saturating_sub(desk.free[request.start as usize + k]);
-    }
-    short
+    free_by_day(desk, request).map(|free| request.mw.saturating_sub(free))
 }
 
 // Takes what a record holds off what is short on each day of the request's term; answers on how many days it took
@@ -33,13 +39,12 @@ pub fn visit(one: &Record, request: &Request, short: &mut [u32]) -> u32
     ensures own_days { HoldsInTerm one.now → result ≡ busy_days (gives_here one.now request.now short.old) one.now.standing.request.start one.now.standing.request.length }
 {
     let mut days = 0;
-    for k in 0..request.length {
-        let index = k as usize;
-        let held = one.held_on(request.start + k);
-        if held.min(short[index]) > 0 {
+    for (k, short) in short[..request.length as usize].iter_mut().enumerate() {
+        let held = one.held_on(request.start + k as u32);
+        if held.min(*short) > 0 {
             days += 1;
         }
-        short[index] = short[index].saturating_sub(held);
+        *short = short.saturating_sub(held);
     }
     days
 }

@@ -9,38 +9,27 @@ ghost use Rattle.desk.specs.Soundness.{Sound};
 ghost use Rattle.law.specs.Posting.{busy_days};
 ghost use Rattle.shelf.specs.Contents.{contents};
 
-use crate::shortage::{first_short, visit};
+use crate::shortage::{first_short, free_by_day, visit};
 use desk::memory::Desk;
-use desk::record::Record;
+use desk::record::{MOST_DAYS, Record};
 use shelf::Shelf;
 use shelf::defender::Defender;
 use terms::request::Request;
 
-// Of so many amounts, how many are above 0.
-fn count_busy(amounts: &[u32], days: u32) -> u32
-    requires { days ≤ length amounts.now }
-    ensures { result ≡ busy_days (λ k. slice_index amounts.now k) 0 days }
+// How many amounts are above 0.
+fn count_busy(amounts: &[u32]) -> usize
+    ensures { result ≡ busy_days (λ k. slice_index amounts.now k) 0 (length amounts.now) }
 {
-    let mut busy = 0;
-    for k in 0..days {
-        if amounts[k as usize] > 0 {
-            busy += 1;
-        }
-    }
-    busy
+    amounts.iter().filter(|mw| **mw > 0).count()
 }
 
 // What is free up to the MW, by day from the request's start on.
-fn first_granted(desk: &Desk, request: &Request) -> [u32; 31]
+fn first_granted(desk: &Desk, request: &Request) -> [u32; MOST_DAYS]
     requires offered { request.now.start + request.now.length ≤ length desk.now.free.now }
     requires term { request.now.length ≤ 31 }
     ensures { (k : ℕ) → k < request.now.length → slice_index result k ≡ min (slice_index desk.now.free.now (request.now.start + k)) request.now.mw }
 {
-    let mut granted = [0; 31];
-    for k in 0..request.length as usize {
-        granted[k] = desk.free[request.start as usize + k].min(request.mw);
-    }
-    granted
+    free_by_day(desk, request).map(|free| free.min(request.mw))
 }
 
 // What is granted up to the MW once all that a record holds is free too.
@@ -49,16 +38,15 @@ fn grant_more(one: &Record, request: &Request, granted: &mut [u32])
     requires term { request.now.length ≤ length granted.old }
     ensures { (k : ℕ) → k < request.now.length → slice_index granted.new k ≡ min (slice_index granted.old k + held_on (request.now.start + k) one.now) request.now.mw }
 {
-    for k in 0..request.length {
-        let index = k as usize;
-        let held = one.held_on(request.start + k);
-        granted[index] = granted[index].saturating_add(held).min(request.mw);
+    for (k, granted) in granted[..request.length as usize].iter_mut().enumerate() {
+        let held = one.held_on(request.start + k as u32);
+        *granted = granted.saturating_add(held).min(request.mw);
     }
 }
 
 // Visits a record and answers how many lines it writes: what it holds comes off what is short, and is granted too where
 // it gives way whole.
-fn count_visit(one: &Record, request: &Request, short: &mut [u32], granted: &mut [u32]) -> u32
+fn count_visit(one: &Record, request: &Request, short: &mut [u32], granted: &mut [u32]) -> usize
     requires reach { request.now.start + request.now.length < 2 ^ 32 }
     requires own { one.now.standing.request.length ≤ 31 }
     requires short { request.now.length ≤ length short.old }
@@ -67,7 +55,7 @@ fn count_visit(one: &Record, request: &Request, short: &mut [u32], granted: &mut
     ensures granted { (k : ℕ) → k < request.now.length → slice_index granted.new k ≡ (if gives_whole one.now request.now short.old then min (slice_index granted.old k + held_on (request.now.start + k) one.now) request.now.mw else slice_index granted.old k) }
     ensures lines { result ≡ lines_written one.now request.now short.old }
 {
-    let days = visit(one, request, short);
+    let days = visit(one, request, short) as usize;
     if !one.standing.state.is_pending() {
         return days;
     }
@@ -75,7 +63,7 @@ fn count_visit(one: &Record, request: &Request, short: &mut [u32], granted: &mut
         return 0;
     }
     grant_more(one, request, granted);
-    count_busy(&one.held, one.standing.request.length)
+    count_busy(&one.held[..one.standing.request.length as usize])
 }
 
 // How many lines a preemption writes: the defenders lined up are visited in turn, and then comes a line for each day on
@@ -85,7 +73,7 @@ pub fn preemption_size(desk: &Desk, shelf: &Shelf<Defender>, request: &Request) 
     requires few_places { length desk.now.places.now ≤ 128 }
     requires there { InPlaces (view desk.now).places (contents shelf.now) }
     requires few { length (contents shelf.now) ≤ length desk.now.places.now }
-    requires offered { request.now.start + request.now.length ≤ length desk.now.amounts.now }
+    requires offered { request.now.start + request.now.length ≤ length desk.now.posted.amounts.now }
     requires term { request.now.length ≤ 31 }
     ensures { result ≡ preemption_size request.now (view desk.now).lines (lined (view desk.now).places (contents shelf.now)) }
 {
@@ -93,10 +81,8 @@ pub fn preemption_size(desk: &Desk, shelf: &Shelf<Defender>, request: &Request) 
     let mut short = first_short(desk, request);
     let mut granted = first_granted(desk, request);
     let mut lines = 0;
-    for j in 0..shelf.len() {
-        if let Some(next) = shelf.at(j) {
-            lines += count_visit(&places[next.place], request, &mut short, &mut granted);
-        }
+    for next in shelf.entries().iter().rev() {
+        lines += count_visit(&places[next.place], request, &mut short, &mut granted);
     }
-    (lines + count_busy(&granted, request.length)) as usize
+    lines + count_busy(&granted[..request.length as usize])
 }

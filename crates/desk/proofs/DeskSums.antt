@@ -35,5 +35,11 @@ module _ (d : Desk) (S : Sound d) (day : ℕ) where
   pub all_is : balance (view d).lines free day + sum_by (held_on day) d.places.now + sum_by (aside_on day) d.places.now + balance (view d).lines flown day ≡ posted_on (view d).days day
   all_is = let h = held_is in let a = aside_is in let w = sums.whole in let i = sums.holdings in let j = sums.asides in omega arith
 
-  pub within_limit : posted_on (view d).days day ≤ 20000
+  within_limit : posted_on (view d).days day ≤ 20000
   within_limit = S.kept.amounts day
+
+  pub held_within : sum_by (held_on day) d.places.now ≤ 20000
+  held_within = omega (arith, all_is, within_limit)
+
+  pub aside_within : sum_by (aside_on day) d.places.now ≤ 20000
+  aside_within = omega (arith, all_is, within_limit)

@@ -29,7 +29,7 @@ two_prop a b p q = λ i. (a p.0 q.0 i, b p.1 q.1 i)
 in_term_prop : (e : Entry) (day : ℕ) → IsProp (InTerm e day)
 in_term_prop e day = hlevel props
 
-solvent_prop : (ls : List Line) → IsProp (NeverBelowZero ls)
+pub solvent_prop : (ls : List Line) → IsProp (NeverBelowZero ls)
 solvent_prop ls = hlevel props
 
 names_prop : (n : ℕ) (ls : List Line) → IsProp (NamesBelow n ls)
@@ -39,10 +39,10 @@ termed_prop : (days : Days) (e : Entry) → IsProp (Termed days e)
 termed_prop days e = hlevel props
 
 module _ (v : View) where
-  posted_prop : IsProp ((day : ℕ) → brought v.lines day ≡ posted_on v.days day)
+  pub posted_prop : IsProp ((day : ℕ) → brought v.lines day ≡ posted_on v.days day)
   posted_prop = hlevel props
 
-  amounts_prop : IsProp ((day : ℕ) → posted_on v.days day ≤ 20000)
+  pub amounts_prop : IsProp ((day : ℕ) → posted_on v.days day ≤ 20000)
   amounts_prop = hlevel props
 
   holders_prop : IsProp ((a day : ℕ) → 0 < balance v.lines (held a) day → InTerm (find a v.places) day)
@@ -56,13 +56,13 @@ module _ (v : View) where
       InTerm (find b v.places) day × (is_competing (find b v.places).standing.state ≡ true))
   competing_prop = Π_prop (λ a. Π_prop (λ b. Π_prop (λ day. Π_prop (λ h. two_prop (in_term_prop (find b v.places) day) (hlevel props)))))
 
-  few_prop : IsProp (length v.days.amounts ≤ 400)
+  pub few_prop : IsProp (length v.days.amounts ≤ 400)
   few_prop = hlevel props
 
   alike_prop : IsProp (length v.days.preschedule ≡ length v.days.amounts)
   alike_prop = hlevel props
 
-  once_prop : IsProp ((a : ℕ) → count a v.places ≤ 1)
+  pub once_prop : IsProp ((a : ℕ) → count a v.places ≤ 1)
   once_prop = hlevel props
 
   kept_prop : IsProp (Kept v)
@@ -103,17 +103,17 @@ module _ (B : Account → ℕ → ℕ) (amounts : List ℕ) (places : List Recor
   frees_prop : IsProp ((day : ℕ) → day < length amounts → get_or amounts day 0 ≡ B free day)
   frees_prop = hlevel props
 
-  shown_prop : IsProp (Shown B amounts places)
+  pub shown_prop : IsProp (Shown B amounts places)
   shown_prop p q = λ i. record {
     frees = frees_prop p.frees q.frees i;
     records = all_prop (Shows B) (shows_prop B) places p.records q.records i;
   }
 
 module _ (d : Desk) where
-  written_prop : IsProp (d.used ≤ length d.lines.now)
+  pub written_prop : IsProp (d.used ≤ length d.lines.now)
   written_prop = hlevel props
 
-  each_day_prop : IsProp (length d.free.now ≡ length d.amounts.now)
+  pub each_day_prop : IsProp (length d.free.now ≡ length d.posted.amounts.now)
   each_day_prop = hlevel props
 
   pub sound_prop : IsProp (Sound d)

@@ -13,7 +13,7 @@ use Rattle.desk.specs.Records.{entry_of, vacant}
 
 -- the days lent
 abbrev pub days_lent : Memory → Days
-days_lent m = record { amounts = m.amounts.now; preschedule = m.preschedule.now }
+days_lent m = record { amounts = m.posted.amounts.now; preschedule = m.posted.preschedule.now }
 
 -- the first refusal of an opening over what is lent, or none
 abbrev pub refusal_over : Memory → Option Refusal
@@ -22,7 +22,7 @@ refusal_over m = opening_refusal (days_lent m) (length m.free.now) (length m.pla
 -- the view of a book over its memory
 abbrev pub view : Desk → View
 view d = record {
-  days = record { amounts = d.amounts.now; preschedule = d.preschedule.now };
+  days = record { amounts = d.posted.amounts.now; preschedule = d.posted.preschedule.now };
   room = length d.lines.now;
   lines = take d.used d.lines.now;
   places = map entry_of d.places.now;
@@ -43,6 +43,6 @@ pub record New (d : Desk) (posted : Days) (amounts : List ℕ) (records : List R
 -- what opening makes of what was lent: every amount is free, every place is empty, the postings head the journal and
 -- the rest of it is as it was; from refused matter a desk of no days, places or lines
 abbrev pub OpenedOver : Memory → Desk → Option Refusal → Type 0
-OpenedOver m d None = New d (days_lent m) m.amounts.now (replicate (length m.places.now) vacant)
-    (postings 0 m.amounts.now ++ drop (length (postings 0 m.amounts.now)) m.lines.now) (length (postings 0 m.amounts.now))
+OpenedOver m d None = New d (days_lent m) m.posted.amounts.now (replicate (length m.places.now) vacant)
+    (postings 0 m.posted.amounts.now ++ drop (length (postings 0 m.posted.amounts.now)) m.lines.now) (length (postings 0 m.posted.amounts.now))
 OpenedOver m d (Some refusal) = New d (record { amounts = []; preschedule = [] }) [] [] [] 0

@@ -26,5 +26,5 @@ pub record Shown (B : Account → ℕ → ℕ) (amounts : List ℕ) (places : Li
 pub record Sound (d : Desk) : Type 0 where
   pub kept : Kept (view d)
   pub written : d.used ≤ length d.lines.now
-  pub each_day : length d.free.now ≡ length d.amounts.now
+  pub each_day : length d.free.now ≡ length d.posted.amounts.now
   pub shown : Shown (balance (view d).lines) d.free.now d.places.now

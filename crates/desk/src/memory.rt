@@ -1,13 +1,13 @@
 // The memory that an owner lends, before and after a book is opened over it.
 use crate::record::Record;
 use journal::line::Line;
+use terms::posted::Posted;
 
-// What is lent for a book: the MW posted on each day and each day's preschedule day, and room for the free amounts, for
-// records and for journal lines.
+// What is lent for a book: the posted days, and room for the free amounts, for records and for journal lines. Free amounts
+// lie in a slice of their own beside the posted ones, and nothing is allocated, since the owner lends all that a book uses.
 #[derive(Drop)]
 pub struct Memory<'a> {
-    pub amounts: &'a [u32],
-    pub preschedule: &'a [u32],
+    pub posted: Posted<'a>,
     pub free: &'a mut [u32],
     pub places: &'a mut [Record],
     pub lines: &'a mut [Line],
@@ -17,8 +17,7 @@ pub struct Memory<'a> {
 // AREF accepted.
 #[derive(Drop)]
 pub struct Desk<'a> {
-    pub amounts: &'a [u32],
-    pub preschedule: &'a [u32],
+    pub posted: Posted<'a>,
     pub free: &'a mut [u32],
     pub places: &'a mut [Record],
     pub lines: &'a mut [Line],

@@ -12,6 +12,6 @@ impl Desk<'_> {
         requires { ∥ Sound self.now ∥₁ }
         ensures { result.now ≡ (view self.now).lines }
     {
-        &self.lines[0..self.used]
+        &self.lines[..self.used]
     }
 }

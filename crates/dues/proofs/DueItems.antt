@@ -1,6 +1,6 @@
 -- The items that are due, lined up on a shelf: the first to come off is the earliest.
-use Rattle.std.proofs.Common.{◌≡◌, ℕ, zero, suc, ◌+◌, ◌-◌, ◌<◌, ◌≤◌, Bool, true, false, cond, ◌⊎◌, List, [], ◌∷◌, map, length, get_or, drop, filter, sym, refl, ap, ◌∙◌, subst, inl, inr, arith}
-use Rattle.std.proofs.lemmas.List.{drop_more, drop_all}
+use Rattle.std.proofs.Common.{◌≡◌, ℕ, zero, suc, ◌+◌, ◌<◌, ◌≤◌, Bool, true, false, cond, ◌⊎◌, List, [], ◌∷◌, map, length, get_or, drop, filter, sym, refl, ap, ◌∙◌, subst, inl, inr, arith}
+use Rattle.std.proofs.lemmas.List.{drop_all}
 use Rattle.std.proofs.lemmas.Bool.{cases_Bool, cond-true, cond-false, or_parts, or_from, or_left, or_right}
 use Rattle.shelf.specs.declared.due.Due.{Due}
 use Rattle.shelf.specs.Due.{sooner as comes-sooner}
@@ -10,6 +10,7 @@ use Rattle.law.specs.Places.{some}
 use Rattle.law.specs.Calls.{sooner, earliest, is_due, first_due}
 use Rattle.desk.specs.declared.record.Record.{Record}
 use Rattle.desk.specs.Records.{entry_of}
+use Rattle.desk.proofs.FromTheLast.{OneBack}
 use Rattle.dues.specs.FirstDue.{NoneDue, DueAt}
 use Rattle.dues.proofs.Earliest.{sooner_of, earliest_after}
 
@@ -54,7 +55,7 @@ some_at minute (suc i) (e ∷ es) h q = or_right (is_due minute e) _ (some_at mi
 
 module _ (minute i : ℕ) (e : Entry) (es : List Entry) where
   -- what is not due leaves the shelf as it is
-  pub heads_past : is_due minute e ≡ false → (xs : List Due) → Heads minute (i + 1) es xs → Heads minute i (e ∷ es) xs
+  heads_past : is_due minute e ≡ false → (xs : List Due) → Heads minute (i + 1) es xs → Heads minute i (e ∷ es) xs
   unfolding some first_due
   heads_past w [] h = record { none = or_from _ _ w h.none; first = rw w h.first }
   heads_past w (x ∷ xs) h = record {
@@ -78,7 +79,7 @@ module _ (minute i : ℕ) (e : Entry) (es : List Entry) where
     here q = record { back = 0; at = omega arith; soon = refl; named = refl; there = record { within = omega arith; first = q; due = w } }
 
     -- what is due goes before all that fall due later
-    pub heads_more : (xs : List Due) → Heads minute (i + 1) es xs → Heads minute i (e ∷ es) (put comes-sooner xs (item i e))
+    heads_more : (xs : List Due) → Heads minute (i + 1) es xs → Heads minute i (e ∷ es) (put comes-sooner xs (item i e))
     heads_more [] h = here (alone h)
     heads_more (x ∷ xs) h = go (cases_Bool (sooner m e))
       where
@@ -107,19 +108,16 @@ length-put before (y ∷ ys) x = go (length-put before ys x) (before y x)
     go ih false = omega arith
 
 -- one turn of the loop, which goes from the last place to the first
-module _ (minute i : ℕ) (places : List Record) (d : Record) (some_left : 0 < i) (h : i ≤ length places) (xs : List Due) (H : Heads minute i (map entry_of (drop i places)) xs) where
-  later : Heads minute (i - 1 + 1) (map entry_of (drop (i - 1 + 1) places)) xs
-  later = let e : i ≡ i - 1 + 1 = omega arith in subst (λ n. Heads minute n (map entry_of (drop n places)) xs) e H
+module _ (minute : ℕ) (places rest next : List Record) (one : Record) (back : OneBack places rest next one) (xs : List Due)
+    (H : Heads minute (length rest) (map entry_of (drop (length rest) places)) xs) where
+  later : Heads minute (length next + 1) (map entry_of (drop (length rest) places)) xs
+  later = subst (λ n. Heads minute n (map entry_of (drop (length rest) places)) xs) back.count H
 
-  split : drop (i - 1) places ≡ get_or places (i - 1) d ∷ drop (i - 1 + 1) places
-  split = drop_more places (i - 1) d (omega arith)
+  pub turn_past : is_due minute (entry_of one) ≡ false → Heads minute (length next) (map entry_of (drop (length next) places)) xs
+  turn_past w = subst (λ rs. Heads minute (length next) (map entry_of rs) xs) (sym back.behind) (heads_past minute (length next) _ _ w xs later)
 
-  pub turn_past : is_due minute (entry_of (get_or places (i - 1) d)) ≡ false → Heads minute (i - 1) (map entry_of (drop (i - 1) places)) xs
-  turn_past w = subst (λ rs. Heads minute (i - 1) (map entry_of rs) xs) (sym split) (heads_past minute (i - 1) _ _ w xs later)
-
-  pub turn_more : is_due minute (entry_of (get_or places (i - 1) d)) ≡ true →
-      Heads minute (i - 1) (map entry_of (drop (i - 1) places)) (put comes-sooner xs (item (i - 1) (entry_of (get_or places (i - 1) d))))
-  turn_more w = subst (λ rs. Heads minute (i - 1) (map entry_of rs) (put comes-sooner xs (item (i - 1) (entry_of (get_or places (i - 1) d))))) (sym split) (heads_more minute (i - 1) _ _ w xs later)
+  pub turn_more : is_due minute (entry_of one) ≡ true → Heads minute (length next) (map entry_of (drop (length next) places)) (put comes-sooner xs (item (length next) (entry_of one)))
+  turn_more w = subst (λ rs. Heads minute (length next) (map entry_of rs) (put comes-sooner xs (item (length next) (entry_of one)))) (sym back.behind) (heads_more minute (length next) _ _ w xs later)
 
 -- before the first turn the shelf is empty
 pub turn_none : (minute i : ℕ) (places : List Record) → length places ≤ i → Heads minute i (map entry_of (drop i places)) []

@@ -7,18 +7,18 @@ ghost use Rattle.law.specs.Calls.{submit as submitting, written, entered};
 ghost use Rattle.law.specs.Places.{new_record};
 ghost use Rattle.law.specs.Posting.{by_day};
 ghost use Rattle.law.specs.Preemption.{grant};
-ghost use Rattle.posting.specs.Postable.{Showing};
 ghost use Rattle.answers.specs.Told.{told};
 ghost use Rattle.entering.specs.Enterable.{Enterable, NewRecord};
 ghost use Rattle.sheets.specs.Laws.{Possible};
 
 use answers::Done;
-use desk::memory::Desk;
-use desk::record::Record;
+use desk::record::{MOST_DAYS, Record};
 use journal::line::LineKind;
-use moving::{Move, count_busy, move_by_day, seat};
+use moving::Move;
+use moving::ledger::Ledger;
 use posting::sides::Side;
 use sheets::RuleSheet;
+use sheets::falling_due::due_of;
 use terms::refusal::Refusal;
 use terms::request::{Request, Standing};
 use terms::words::State;
@@ -36,47 +36,40 @@ pub fn new_record<S: RuleSheet>(sheet: &S, minute: u32, request: &Request, state
         state,
         queued: minute,
     };
-    let due = if state.is_pending() {
-        minute + sheet.confirm_time(&standing)
-    } else {
-        1_440 * (request.start + request.length)
-    };
-    let none = [0; 31];
     Record {
         standing,
-        due,
+        due: due_of(sheet, minute, &standing),
         against: 0,
-        held: none,
-        aside: none,
+        held: [0; MOST_DAYS],
+        aside: [0; MOST_DAYS],
     }
 }
 
 // Enters a request in a place, granted the lesser of free and its MW on each day.
 pub fn enter<S: RuleSheet>(
-    desk: &mut Desk,
+    ledger: &mut Ledger,
     sheet: &S,
     minute: u32,
     request: &Request,
     place: usize,
     state: State,
 ) -> Result<Done, Refusal>
-    requires sound { Sound desk.old }
-    requires few_lines { length desk.old.lines.now ≤ 65536 }
-    requires may { Enterable (view desk.old) minute request.now place }
+    requires sound { Sound ledger.old.desk }
+    requires few_lines { length ledger.old.desk.lines.now ≤ 65536 }
+    requires may { Enterable (view ledger.old.desk) minute request.now place }
     requires lives { is_living state ≡ true }
-    ensures shown { Showing desk.new }
-    ensures says { (told result, view desk.new) ≡ written (submitting minute request.now) (view desk.old)
+    ensures says { (told result, view ledger.new.desk) ≡ written (submitting minute request.now) (view ledger.old.desk)
         (entered (S.rules sheet.now) minute request.now state
-        (by_day (grant minute request.now) request.now.start request.now.length (view desk.old).lines)
-        (view desk.old).places) }
+        (by_day (grant minute request.now) request.now.start request.now.length (view ledger.old.desk).lines)
+        (view ledger.old.desk).places) }
 {
-    let first = desk.used;
-    let count = count_busy(desk, Side::Free, request.start, request.length);
-    if count as usize > desk.lines.len() - first {
+    let first = ledger.desk.used;
+    let count = ledger.count_busy(Side::Free, request.start, request.length);
+    if count as usize > ledger.desk.lines.len() - first {
         return Err(Refusal::JournalFull);
     }
     let new = new_record(sheet, minute, request, state);
-    seat(desk, place, new);
+    ledger.seat(place, new);
     let granted = Move {
         minute,
         kind: LineKind::Granted,
@@ -86,9 +79,9 @@ pub fn enter<S: RuleSheet>(
         taker: Side::Held(place),
         most: request.mw,
     };
-    move_by_day(desk, granted, request.start, request.length);
-    desk.clock = minute;
-    desk.top = request.aref;
+    ledger.move_by_day(granted, request.start, request.length);
+    ledger.desk.clock = minute;
+    ledger.desk.top = request.aref;
     Ok(Done {
         aref: request.aref,
         state,

@@ -1,37 +1,43 @@
 // What is free for a request, day by day.
-ghost use Rattle.std.specs.Prelude.{◌≡◌, ◌+◌, ◌≤◌, length, nat_eq, nat_le};
+ghost use Rattle.std.specs.Prelude.{◌≡◌, ◌+◌, ◌≤◌, length, take, drop, nat_eq, nat_le};
+ghost use Rattle.std.specs.List.{list_all};
 ghost use Rattle.desk.specs.Desks.{view};
 ghost use Rattle.law.specs.Posting.{each_day, free_on};
 ghost use Rattle.law.specs.Preemption.{wanted};
-ghost use Rattle.moving.specs.Midway.{Midway};
 
 use desk::memory::Desk;
+use moving::each_reaches;
+use moving::ledger::Ledger;
 use terms::request::Request;
 
-// Does free cover the MW on each day?
-pub fn free_covers(desk: &Desk, request: &Request) -> bool
-    requires midway { Midway desk.now }
-    requires inside { request.now.start + request.now.length ≤ length (view desk.now).days.amounts }
-    ensures { result ≡ each_day (λ day. nat_le (wanted request.now day) (free_on (view desk.now).lines day)) request.now.start request.now.length }
+// What is free, day by day of a request's term.
+fn free_in_term<'d>(desk: &'d Desk, request: &Request) -> &'d [u32]
+    requires { request.now.start + request.now.length ≤ length desk.now.free.now }
+    ensures { result.now ≡ take request.now.length (drop request.now.start desk.now.free.now) }
 {
-    for k in 0..request.length {
-        if desk.free[(request.start + k) as usize] < request.mw {
-            return false;
-        }
-    }
-    true
+    let free: &[u32] = desk.free;
+    let start = request.start as usize;
+    &free[start..start + request.length as usize]
+}
+
+fn all_zero(amounts: &[u32]) -> bool
+    ensures { result ≡ list_all (λ mw. nat_eq mw 0) amounts.now }
+{
+    amounts.iter().all(|mw| *mw == 0)
+}
+
+// Does free cover the MW on each day?
+pub fn free_covers(ledger: &Ledger, request: &Request) -> bool
+    requires inside { request.now.start + request.now.length ≤ length (view ledger.now.desk).days.amounts }
+    ensures { result ≡ each_day (λ day. nat_le (wanted request.now day) (free_on (view ledger.now.desk).lines day)) request.now.start request.now.length }
+{
+    each_reaches(free_in_term(&ledger.desk, request), request.mw)
 }
 
 // Is nothing free on any day?
-pub fn nothing_free(desk: &Desk, request: &Request) -> bool
-    requires midway { Midway desk.now }
-    requires inside { request.now.start + request.now.length ≤ length (view desk.now).days.amounts }
-    ensures { result ≡ each_day (λ day. nat_eq (free_on (view desk.now).lines day) 0) request.now.start request.now.length }
+pub fn nothing_free(ledger: &Ledger, request: &Request) -> bool
+    requires inside { request.now.start + request.now.length ≤ length (view ledger.now.desk).days.amounts }
+    ensures { result ≡ each_day (λ day. nat_eq (free_on (view ledger.now.desk).lines day) 0) request.now.start request.now.length }
 {
-    for k in 0..request.length {
-        if desk.free[(request.start + k) as usize] > 0 {
-            return false;
-        }
-    }
-    true
+    all_zero(free_in_term(&ledger.desk, request))
 }

@@ -10,7 +10,7 @@ use sheets::RuleSheet;
 use terms::posted::Posted;
 use terms::request::{Request, Standing};
 
-#[derive(Clone, Copy)]
+#[derive(Clone, Copy, Debug, PartialEq, Eq)]
 pub struct Finding {
     pub outranked: bool,
     pub open_until: Option<u64>,
@@ -21,15 +21,12 @@ pub struct Finding {
 pub fn find(challenger: &Request, defender: &Standing, minute: u32, posted: &Posted) -> Finding
     ensures { result ≡ found challenger.now defender.now minute (days_of posted.now) }
 {
-    let match_until = if Firm.may_match(challenger, defender) {
-        Some(Firm.answer_by(challenger, defender, minute, posted))
-    } else {
-        None
-    };
     Finding {
         outranked: Firm.outranks(challenger, defender),
         open_until: Firm.open_until(challenger, defender, posted),
-        match_until,
+        match_until: Firm
+            .may_match(challenger, defender)
+            .then_some(Firm.answer_by(challenger, defender, minute, posted)),
     }
 }
 
@@ -37,11 +34,9 @@ pub fn find(challenger: &Request, defender: &Standing, minute: u32, posted: &Pos
 pub fn turn_among<S: RuleSheet>(sheet: &S, one: &Standing, records: &[Standing]) -> usize
     ensures { result ≡ count_by (λ other. (S.rules sheet.now).gives_before other one.now) records.now + 1 }
 {
-    let mut before = 0;
-    for other in records {
-        if sheet.gives_before(other, one) {
-            before += 1;
-        }
-    }
-    before + 1
+    records
+        .iter()
+        .filter(|other| sheet.gives_before(other, one))
+        .count()
+        + 1
 }

@@ -1,7 +1,9 @@
 // The firm sheet: daily, weekly and monthly firm service, point-to-point and network.
 #![tactic(auto)]
 
-ghost use Rattle.std.specs.Prelude.{◌≡◌, ◌^◌, ◌<◌};
+ghost use Rattle.std.specs.Prelude.{◌≡◌, ◌^◌, ◌<◌, not};
+ghost use Rattle.terms.specs.Standings.{committed};
+ghost use Rattle.terms.specs.Words.{is_pending};
 ghost use Rattle.sheets.specs.Turn.{turn_by};
 ghost use Rattle.firm.specs.Firm.{firm, outlasts, firm_order, firm_in_time_until, firm_open_until, firm_confirmed_until, firm_confirm_time};
 ghost use Rattle.terms.specs.Days.{days_of};
@@ -9,6 +11,7 @@ ghost use Rattle.firm.specs.FirmLaws.{firm_lawful};
 
 use sheets::RuleSheet;
 use sheets::minutes::not_past;
+use std::cmp::Reverse;
 use terms::posted::{Posted, first_minute};
 use terms::request::{Request, Standing};
 use terms::words::{Kind, Product, State};
@@ -80,23 +83,28 @@ pub fn outlasts(challenger: &Request, defender: &Standing) -> bool
         || (challenger.length == defender.request.length && !defender.is_committed())
 }
 
+// What a record's turn goes by: the first difference decides, and the lower goes first.
+fn rank(one: &Standing) -> (bool, u32, bool, Reverse<u32>, Reverse<u32>)
+    ensures pending { result.0 ≡ not (is_pending one.now.state) }
+    ensures length { result.1 ≡ one.now.request.length }
+    ensures committed { result.2 ≡ committed one.now }
+    ensures queued { result.3.0 ≡ one.now.queued }
+    ensures aref { result.4.0 ≡ one.now.request.aref }
+{
+    (
+        !one.state.is_pending(),
+        one.request.length,
+        one.is_committed(),
+        Reverse(one.queued),
+        Reverse(one.request.aref),
+    )
+}
+
 // Pending first, then the shorter length, who is not committed, the later queue minute, the higher AREF.
 pub fn firm_turn(one: &Standing, other: &Standing) -> bool
     ensures { result ≡ turn_by firm_order one.now other.now }
 {
-    if one.state.is_pending() != other.state.is_pending() {
-        return one.state.is_pending();
-    }
-    if one.request.length != other.request.length {
-        return one.request.length < other.request.length;
-    }
-    if one.is_committed() != other.is_committed() {
-        return other.is_committed();
-    }
-    if one.queued != other.queued {
-        return one.queued > other.queued;
-    }
-    one.request.aref > other.request.aref
+    rank(one) < rank(other)
 }
 
 // How many minutes an offer of a product stands.
@@ -123,8 +131,7 @@ impl RuleSheet for Firm {
             return false;
         }
         challenger.kind.is_network()
-            || (challenger.product.number() >= defender.request.product.number()
-                && outlasts(challenger, defender))
+            || (challenger.product >= defender.request.product && outlasts(challenger, defender))
     }
 
     fn gives_before(&self, one: &Standing, other: &Standing) -> bool {
@@ -158,7 +165,7 @@ impl RuleSheet for Firm {
         minute: u32,
         _posted: &Posted,
     ) -> u64 {
-        minute as u64 + 1_440
+        u64::from(minute) + 1_440
     }
 
     fn confirm_time(&self, pending: &Standing) -> u32 {

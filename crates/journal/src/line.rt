@@ -2,7 +2,9 @@
 ghost use Rattle.std.specs.Prelude.{◌≡◌, Bool};
 ghost use Rattle.journal.specs.Kinds.{line_number, gives_way};
 
-#[derive(Clone, Copy)]
+use std::fmt;
+
+#[derive(Clone, Copy, Debug, PartialEq, Eq)]
 pub enum LineKind {
     // posted to free
     Posted,
@@ -28,11 +30,11 @@ pub enum LineKind {
     Flown,
 }
 
-impl LineKind {
-    pub fn number(self) -> u32
-        ensures { result ≡ line_number self }
-    {
-        match self {
+impl From<LineKind> for u32 {
+    ghost from_gives = { λ kind number. number ≡ line_number kind };
+
+    fn from(kind: LineKind) -> u32 {
+        match kind {
             LineKind::Posted => 1,
             LineKind::Granted => 2,
             LineKind::Superseded => 3,
@@ -46,20 +48,22 @@ impl LineKind {
             LineKind::Flown => 11,
         }
     }
+}
 
+impl LineKind {
     // Does somebody give way by such a line: is a superseded, recalled from or set aside from?
     pub fn gives_way(self) -> bool
         ensures { result ≡ gives_way self }
     {
-        match self {
-            LineKind::Superseded | LineKind::Recalled | LineKind::SetAside => true,
-            _ => false,
-        }
+        matches!(
+            self,
+            LineKind::Superseded | LineKind::Recalled | LineKind::SetAside
+        )
     }
 }
 
 // MW that moved on one day, by a call at a minute; a and b are AREFs, 0 where no record is named.
-#[derive(Clone, Copy)]
+#[derive(Clone, Copy, Debug, PartialEq, Eq)]
 pub struct Line {
     pub minute: u32,
     pub kind: LineKind,
@@ -67,4 +71,23 @@ pub struct Line {
     pub b: u32,
     pub day: u32,
     pub mw: u32,
+}
+
+// A row of the journal's table.
+impl fmt::Display for Line {
+    fn fmt<W: fmt::Write>(&self, f: &mut fmt::Formatter<W>) -> fmt::Result {
+        let Line {
+            minute,
+            kind,
+            a,
+            b,
+            day,
+            mw,
+        } = *self;
+        let number = u32::from(kind);
+        write!(
+            f,
+            "{minute:>6}  {number:>4}  {a:>4}  {b:>4}  {day:>3}  {mw:>5}"
+        )
+    }
 }

@@ -9,12 +9,11 @@ ghost use Rattle.desk.specs.Soundness.{Sound};
 ghost use Rattle.law.specs.Calls.{let_go, flew};
 ghost use Rattle.law.specs.View.{living, nobody};
 ghost use Rattle.leaving.specs.WaysOut.{leaves_by, WayOut};
-ghost use Rattle.posting.specs.Postable.{Showing};
 
 use answers::Done;
-use desk::memory::Desk;
 use journal::line::LineKind;
-use moving::{Move, count_busy, move_by_day};
+use moving::Move;
+use moving::ledger::Ledger;
 use posting::sides::Side;
 use restating::restate;
 use terms::refusal::Refusal;
@@ -22,25 +21,24 @@ use terms::words::State;
 
 // All that the record in a place holds goes to a side by lines of a kind, and the record is gone.
 fn leave(
-    desk: &mut Desk,
+    ledger: &mut Ledger,
     minute: u32,
     i: usize,
     kind: LineKind,
     taker: Side,
 ) -> Result<Done, Refusal>
-    requires sound { Sound desk.old }
-    requires few_lines { length desk.old.lines.now ≤ 65536 }
+    requires sound { Sound ledger.old.desk }
+    requires few_lines { length ledger.old.desk.lines.now ≤ 65536 }
     requires way { WayOut kind taker }
-    requires within { i < length desk.old.places.now }
-    requires lives { living (slice_index_or (view desk.old).places i nobody) ≡ true }
-    ensures shown { Showing desk.new }
-    ensures says { Writes (view desk.old) minute (leaves_by kind minute (slice_index_or (view desk.old).places i nobody) (view desk.old)) (told result) (view desk.new) }
+    requires within { i < length ledger.old.desk.places.now }
+    requires lives { living (slice_index_or (view ledger.old.desk).places i nobody) ≡ true }
+    ensures says { Writes (view ledger.old.desk) minute (leaves_by kind minute (slice_index_or (view ledger.old.desk).places i nobody) (view ledger.old.desk)) (told result) (view ledger.new.desk) }
 {
-    let first = desk.used;
-    let due = desk.places[i].due;
-    let request = desk.places[i].standing.request;
-    let count = count_busy(desk, Side::Held(i), request.start, request.length);
-    if count as usize > desk.lines.len() - first {
+    let first = ledger.desk.used;
+    let due = ledger.desk.places[i].due;
+    let request = ledger.desk.places[i].standing.request;
+    let count = ledger.count_busy(Side::Held(i), request.start, request.length);
+    if count as usize > ledger.desk.lines.len() - first {
         return Err(Refusal::JournalFull);
     }
     let all = Move {
@@ -52,9 +50,9 @@ fn leave(
         taker,
         most: 20_000,
     };
-    move_by_day(desk, all, request.start, request.length);
-    restate(desk, i, State::Gone, due);
-    desk.clock = minute;
+    ledger.move_by_day(all, request.start, request.length);
+    restate(ledger, i, State::Gone, due);
+    ledger.desk.clock = minute;
     Ok(Done {
         aref: request.aref,
         state: State::Gone,
@@ -64,25 +62,23 @@ fn leave(
 }
 
 // What the record in a place holds becomes free, and the record is gone.
-pub fn let_go(desk: &mut Desk, minute: u32, i: usize) -> Result<Done, Refusal>
-    requires sound { Sound desk.old }
-    requires few_lines { length desk.old.lines.now ≤ 65536 }
-    requires within { i < length desk.old.places.now }
-    requires lives { living (slice_index_or (view desk.old).places i nobody) ≡ true }
-    ensures shown { Showing desk.new }
-    ensures says { Writes (view desk.old) minute (let_go minute (slice_index_or (view desk.old).places i nobody) (view desk.old)) (told result) (view desk.new) }
+pub fn let_go(ledger: &mut Ledger, minute: u32, i: usize) -> Result<Done, Refusal>
+    requires sound { Sound ledger.old.desk }
+    requires few_lines { length ledger.old.desk.lines.now ≤ 65536 }
+    requires within { i < length ledger.old.desk.places.now }
+    requires lives { living (slice_index_or (view ledger.old.desk).places i nobody) ≡ true }
+    ensures says { Writes (view ledger.old.desk) minute (let_go minute (slice_index_or (view ledger.old.desk).places i nobody) (view ledger.old.desk)) (told result) (view ledger.new.desk) }
 {
-    leave(desk, minute, i, LineKind::Released, Side::Free)
+    leave(ledger, minute, i, LineKind::Released, Side::Free)
 }
 
 // What the record in a place holds has flown, and the record is gone.
-pub fn fly(desk: &mut Desk, minute: u32, i: usize) -> Result<Done, Refusal>
-    requires sound { Sound desk.old }
-    requires few_lines { length desk.old.lines.now ≤ 65536 }
-    requires within { i < length desk.old.places.now }
-    requires lives { living (slice_index_or (view desk.old).places i nobody) ≡ true }
-    ensures shown { Showing desk.new }
-    ensures says { Writes (view desk.old) minute (flew minute (slice_index_or (view desk.old).places i nobody) (view desk.old)) (told result) (view desk.new) }
+pub fn fly(ledger: &mut Ledger, minute: u32, i: usize) -> Result<Done, Refusal>
+    requires sound { Sound ledger.old.desk }
+    requires few_lines { length ledger.old.desk.lines.now ≤ 65536 }
+    requires within { i < length ledger.old.desk.places.now }
+    requires lives { living (slice_index_or (view ledger.old.desk).places i nobody) ≡ true }
+    ensures says { Writes (view ledger.old.desk) minute (flew minute (slice_index_or (view ledger.old.desk).places i nobody) (view ledger.old.desk)) (told result) (view ledger.new.desk) }
 {
-    leave(desk, minute, i, LineKind::Flown, Side::Flown)
+    leave(ledger, minute, i, LineKind::Flown, Side::Flown)
 }

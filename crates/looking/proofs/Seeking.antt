@@ -1,53 +1,35 @@
--- Steps of a loop that seeks a place: what is left to look through decides.
-use Rattle.std.proofs.Common.{◌≡◌, ℕ, ◌+◌, ◌<◌, ◌≤◌, Bool, true, false, cond, ◌||◌, List, map, length, get_or, drop, Some, None, Option, sym, refl, ap, ◌∙◌, arith}
-use Rattle.std.proofs.lemmas.List.{drop_more, drop_all}
-use Rattle.std.proofs.lemmas.Bool.{or_left, cond-true, cond-false}
+-- What a chain over the places finds is what the rules find of their entries.
+use Rattle.std.proofs.Common.{◌≡◌, ℕ, suc, ◌+◌, Bool, true, false, cond, ◌||◌, ltb, List, [], ◌∷◌, map, length, Some, None, Option, position, ◌<◌, ◌≤◌, ◌⊎◌, inl, inr, refl, ap, ◌∙◌, arith}
+use Rattle.std.specs.List.{list_any, position_or_len}
+use Rattle.std.proofs.lemmas.Bool.{cases_lt, lt-ltb, le-ltb}
 use Rattle.law.specs.View.{Entry}
 use Rattle.law.specs.Places.{some}
 use Rattle.desk.specs.declared.record.Record.{Record}
 use Rattle.desk.specs.Records.{entry_of}
 use Rattle.looking.specs.FirstPlace.{one_further, first_place}
 
-module _ (p : Entry → Bool) (places : List Record) (i : ℕ) (d : Record) where
-  some_more : i < length places → some p (map entry_of (drop i places)) ≡ (p (entry_of (get_or places i d)) || some p (map entry_of (drop (i + 1) places)))
+-- an index that may be below a length, and both one further
+both_further : (n m : ℕ) → cond {A = Option ℕ} (ltb (1 + n) (suc m)) (Some (1 + n)) None ≡ one_further (cond (ltb n m) (Some n) None)
+both_further n m = go (cases_lt n m)
+  where
+    go : (n < m) ⊎ (m ≤ n) → cond {A = Option ℕ} (ltb (1 + n) (suc m)) (Some (1 + n)) None ≡ one_further (cond (ltb n m) (Some n) None)
+    go (inl below) = rw (lt-ltb n m below, lt-ltb (1 + n) (suc m) (omega arith)) (ap (λ k. Some k) (omega arith))
+    go (inr past) = rw (le-ltb n m past, le-ltb (1 + n) (suc m) (omega arith)) refl
+
+-- the first place of a list whose first element is x
+position_more : {X : Type 0} (q : X → Bool) (x : X) (xs : List X) → position q (x ∷ xs) ≡ cond (q x) (Some 0) (one_further (position q xs))
+position_more q x xs = go (q x) refl
+  where
+    go : (b : Bool) → q x ≡ b → position q (x ∷ xs) ≡ cond (q x) (Some 0) (one_further (position q xs))
+    go true e = rw (e, lt-ltb 0 (suc (length xs)) (omega arith)) refl
+    go false e = rw e (both_further (position_or_len q xs) (length xs))
+
+module _ (p : Entry → Bool) where
+  pub some_by_records : (places : List Record) → list_any (λ r. p (entry_of r)) places ≡ some p (map entry_of places)
   unfolding some
-  some_more h = ap (λ rs. some p (map entry_of rs)) (drop_more places i d h)
+  some_by_records [] = refl
+  some_by_records (r ∷ rs) = ap (λ b. p (entry_of r) || b) (some_by_records rs)
 
-  pub some_here : i < length places → p (entry_of (get_or places i d)) ≡ true → some p (map entry_of (drop i places)) ≡ true
-  some_here h q = some_more h ∙ or_left _ _ q
-
-  pub some_further : i < length places → p (entry_of (get_or places i d)) ≡ false → some p (map entry_of (drop (i + 1) places)) ≡ some p (map entry_of (drop i places))
-  some_further h q = sym (some_more h ∙ ap (λ b. b || some p (map entry_of (drop (i + 1) places))) q)
-
-pub some_nowhere : (p : Entry → Bool) (places : List Record) (i : ℕ) → length places ≤ i → some p (map entry_of (drop i places)) ≡ false
-unfolding some
-some_nowhere p places i h = ap (λ rs. some p (map entry_of rs)) (drop_all i places h)
-
--- an index counted from i on
-abbrev pub shifted : ℕ → Option ℕ → Option ℕ
-shifted i None = None
-shifted i (Some j) = Some (i + j)
-
-shifted_none : (o : Option ℕ) → shifted 0 o ≡ o
-shifted_none None = refl
-shifted_none (Some j) = ap (λ n. Some n) (omega arith)
-
-shifted_one : (i : ℕ) (o : Option ℕ) → shifted (i + 1) o ≡ shifted i (one_further o)
-shifted_one i None = refl
-shifted_one i (Some j) = ap (λ n. Some n) (omega arith)
-
-pub first_from_start : (p : Entry → Bool) (places : List Record) → shifted 0 (first_place p (map entry_of (drop 0 places))) ≡ first_place p (map entry_of places)
-first_from_start p places = shifted_none (first_place p (map entry_of places))
-
-module _ (p : Entry → Bool) (places : List Record) (i : ℕ) (d : Record) where
-  first_more : i < length places → first_place p (map entry_of (drop i places)) ≡ cond (p (entry_of (get_or places i d))) (Some 0) (one_further (first_place p (map entry_of (drop (i + 1) places))))
-  first_more h = ap (λ rs. first_place p (map entry_of rs)) (drop_more places i d h)
-
-  pub first_here : i < length places → p (entry_of (get_or places i d)) ≡ true → Some i ≡ shifted i (first_place p (map entry_of (drop i places)))
-  first_here h q = let z : i ≡ i + 0 = omega arith in ap (λ n. Some n) z ∙ ap (shifted i) (sym (first_more h ∙ cond-true _ _ _ q))
-
-  pub first_further : i < length places → p (entry_of (get_or places i d)) ≡ false → shifted (i + 1) (first_place p (map entry_of (drop (i + 1) places))) ≡ shifted i (first_place p (map entry_of (drop i places)))
-  first_further h q = shifted_one i _ ∙ ap (shifted i) (sym (first_more h ∙ cond-false _ _ _ q))
-
-pub first_nowhere : (p : Entry → Bool) (places : List Record) (i : ℕ) → length places ≤ i → None ≡ shifted i (first_place p (map entry_of (drop i places)))
-first_nowhere p places i h = ap (λ rs. shifted i (first_place p (map entry_of rs))) (sym (drop_all i places h))
+  pub first_by_records : (places : List Record) → position (λ r. p (entry_of r)) places ≡ first_place p (map entry_of places)
+  first_by_records [] = refl
+  first_by_records (r ∷ rs) = position_more (λ x. p (entry_of x)) r rs ∙ ap (λ o. cond (p (entry_of r)) (Some 0) (one_further o)) (first_by_records rs)

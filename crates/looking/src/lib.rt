@@ -15,10 +15,10 @@ use terms::words::State;
 pub fn state_falls_due(state: State) -> bool
     ensures { result ≡ falls_due state }
 {
-    match state {
-        State::Confirmed | State::Accepted | State::Offered | State::Challenged => true,
-        State::Competing | State::Gone => false,
-    }
+    matches!(
+        state,
+        State::Confirmed | State::Accepted | State::Offered | State::Challenged
+    )
 }
 
 // Did a record fall due before the minute?
@@ -32,24 +32,14 @@ pub fn fell_due(one: &Record, minute: u32) -> bool
 pub fn any_due(places: &[Record], minute: u32) -> bool
     ensures { result ≡ some (is_due minute) (map entry_of places.now) }
 {
-    for one in places {
-        if fell_due(one, minute) {
-            return true;
-        }
-    }
-    false
+    places.iter().any(|one| fell_due(one, minute))
 }
 
 // Is any match open?
 pub fn any_match_open(places: &[Record]) -> bool
     ensures { result ≡ match_open (map entry_of places.now) }
 {
-    for one in places {
-        if one.standing.state.is_challenged() {
-            return true;
-        }
-    }
-    false
+    places.iter().any(|one| one.standing.state.is_challenged())
 }
 
 // Is it the living record of an AREF?
@@ -63,15 +53,10 @@ pub fn stands_for(one: &Record, aref: u32) -> bool
 pub fn place_of(places: &[Record], aref: u32) -> Option<usize>
     ensures { result ≡ first_place (is aref) (map entry_of places.now) }
 {
-    for i in 0..places.len() {
-        if stands_for(&places[i], aref) {
-            return Some(i);
-        }
-    }
-    None
+    places.iter().position(|one| stands_for(one, aref))
 }
 
-// Has nobody living the place?
+// Does no living record have the place?
 pub fn is_vacant(one: &Record) -> bool
     ensures { result ≡ not (living (entry_of one.now)) }
 {
@@ -82,10 +67,5 @@ pub fn is_vacant(one: &Record) -> bool
 pub fn vacant_place(places: &[Record]) -> Option<usize>
     ensures { result ≡ first_place (λ e. not (living e)) (map entry_of places.now) }
 {
-    for i in 0..places.len() {
-        if is_vacant(&places[i]) {
-            return Some(i);
-        }
-    }
-    None
+    places.iter().position(is_vacant)
 }

@@ -5,3 +5,4 @@ pub mod Walks
 pub mod Midways
 pub mod OnceSeated
 pub mod FromSound
+pub mod LedgerKeeps

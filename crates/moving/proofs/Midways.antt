@@ -121,8 +121,8 @@ module _ (d : Desk) (M : Midway d) (m : Move) (start days : ℕ) (may : Movable 
             roomy = room_left;
           }
 
-  -- at the end
-  pub midway_after : (e : Desk) → Showing e → view e ≡ with_lines (view d) (after days) → Midway e
-  midway_after e S V =
-      let f = fine_after days in
+  -- and after those days
+  pub midway_after : (k : ℕ) (e : Desk) → Showing e → view e ≡ with_lines (view d) (after k) → Midway e
+  midway_after k e S V =
+      let f = fine_after k in
       midway_from d e M S (ap (λ (w : View). w.days) V) (sym (ap (λ (w : View). w.places) V)) f.0 (subst (Fine f.0 (posted_on (view d).days)) (sym (ap (λ (w : View). w.lines) V)) f.3)

@@ -58,8 +58,7 @@ impl RuleSheet for NonFirm {
         {
             return false;
         }
-        challenger.product.number() == defender.request.product.number()
-            && outlasts(challenger, defender)
+        challenger.product == defender.request.product && outlasts(challenger, defender)
     }
 
     fn gives_before(&self, one: &Standing, other: &Standing) -> bool {
@@ -91,7 +90,7 @@ impl RuleSheet for NonFirm {
         minute: u32,
         _posted: &Posted,
     ) -> u64 {
-        minute as u64 + 1_440
+        u64::from(minute) + 1_440
     }
 
     fn confirm_time(&self, pending: &Standing) -> u32 {

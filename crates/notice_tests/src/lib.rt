@@ -7,7 +7,7 @@ mod tests {
     use receipts::receipt::Receipt;
     use terms::refusal::Refusal;
 
-    const MOST_AREF: u32 = 4_294_967_295;
+    const MOST_AREF: u32 = u32::MAX;
 
     // Records 1 and 10 give way on several days, and record 1 to two challengers; record 77 never does.
     const JOURNAL: [Line; 12] = [
@@ -117,49 +117,35 @@ mod tests {
     // What an output holds before notices are written.
     const OLD: u8 = 0xEE;
 
-    // The bytes written, or the refusal's number; a receipt that is refused is laid aside.
-    fn write_or_lay_aside(mut receipt: Receipt, out: &mut [u8]) -> Result<usize, u32> {
-        match receipt.write_notices(&JOURNAL, out) {
-            Ok(length) => Ok(length),
-            Err(refusal) => {
-                receipt.lay_aside();
-                Err(refusal.number())
-            }
+    // The bytes written; a receipt that is refused is laid aside.
+    fn write_or_lay_aside(mut receipt: Receipt, out: &mut [u8]) -> Result<usize, Refusal> {
+        let answer = receipt.write_notices(&JOURNAL, out);
+        if answer.is_err() {
+            receipt.lay_aside();
         }
+        answer
     }
 
     // Does an output start with the bytes, and is it as it was behind them?
     fn holds(out: &[u8], bytes: &[u8]) -> bool {
-        for (i, byte) in out.iter().enumerate() {
-            let expected = if i < bytes.len() { bytes[i] } else { OLD };
-            if *byte != expected {
-                return false;
-            }
-        }
-        bytes.len() <= out.len()
-    }
-
-    // Lends only so many bytes of a longer output, so that a byte too many would show behind them.
-    fn write_into_front(room: &mut [u8], size: usize) -> Result<usize, u32> {
-        if size > room.len() {
-            return Err(0);
-        }
-        write_or_lay_aside(Receipt::issue(1, 10), &mut room[0..size])
+        out.strip_prefix(bytes)
+            .is_some_and(|rest| rest.iter().all(|byte| *byte == OLD))
     }
 
     #[test]
     fn outputs_of_every_size(rt: HostRuntime) {
         assert_eq!(rt; TOLD.len(), TOLD_LENGTH);
         for size in 0..TOLD_LENGTH + 4 {
+            // only the front of the room is lent, so that a byte too many would show behind it
             let mut room = [OLD; 64];
-            let answer = write_into_front(&mut room, size);
-            if size < TOLD_LENGTH {
-                assert_eq!(rt; answer, Err(25));
-                assert!(rt; holds(&room, b""));
+            let answer = write_or_lay_aside(Receipt::issue(1, 10), &mut room[..size]);
+            let (expected, told) = if size < TOLD_LENGTH {
+                (Err(Refusal::OutputTooSmall), b"".as_slice())
             } else {
-                assert_eq!(rt; answer, Ok(TOLD_LENGTH));
-                assert!(rt; holds(&room, TOLD));
-            }
+                (Ok(TOLD_LENGTH), TOLD)
+            };
+            assert_eq!(rt; answer, expected, "at {size} bytes");
+            assert!(rt; holds(&room, told), "at {size} bytes");
         }
     }
 
@@ -178,52 +164,43 @@ mod tests {
         ];
         for (first, count, told) in table {
             let mut room = [OLD; 64];
-            assert_eq!(rt;
-                write_or_lay_aside(Receipt::issue(first, count), &mut room),
-                Ok(told.len())
-            );
-            assert!(rt; holds(&room, told));
+            let answer = write_or_lay_aside(Receipt::issue(first, count), &mut room);
+            assert_eq!(rt; answer, Ok(told.len()), "from line {first}");
+            assert!(rt; holds(&room, told), "from line {first}");
         }
     }
 
     #[test]
     fn receipts_at_the_end_of_the_journal_and_past_it(rt: HostRuntime) {
-        // first line and count of a receipt, with the number of its refusal, 0 for none
-        let table: [(u32, u32, u32); 9] = [
-            (12, 0, 0),
-            (13, 0, 24),
-            (12, 1, 24),
-            (11, 1, 0),
-            (11, 2, 24),
-            (0, 13, 24),
-            (MOST_AREF, 0, 24),
-            (0, MOST_AREF, 24),
-            (MOST_AREF, MOST_AREF, 24),
+        let refused = Err(Refusal::PastJournal);
+        // first line and count of a receipt, with the answer to it
+        let table = [
+            (12, 0, Ok(0)),
+            (13, 0, refused),
+            (12, 1, refused),
+            (11, 1, Ok(0)),
+            (11, 2, refused),
+            (0, 13, refused),
+            (MOST_AREF, 0, refused),
+            (0, MOST_AREF, refused),
+            (MOST_AREF, MOST_AREF, refused),
         ];
-        for (first, count, refusal) in table {
+        for (first, count, expected) in table {
             let mut room = [OLD; 64];
             let answer = write_or_lay_aside(Receipt::issue(first, count), &mut room);
-            assert_eq!(rt; answer, if refusal == 0 { Ok(0) } else { Err(refusal) });
-            assert!(rt; refusal == 0 || holds(&room, b""));
+            assert_eq!(rt; answer, expected, "from line {first}");
+            assert!(rt; holds(&room, b""), "from line {first}");
         }
-    }
-
-    // The answers of a receipt that is first written into one output and then into another.
-    fn write_twice(
-        first: &mut [u8],
-        second: &mut [u8],
-    ) -> (Result<usize, Refusal>, Result<usize, u32>) {
-        let mut receipt = Receipt::issue(1, 10);
-        let answer = receipt.write_notices(&JOURNAL, first);
-        (answer, write_or_lay_aside(receipt, second))
     }
 
     #[test]
     fn a_refused_receipt_is_written_later(rt: HostRuntime) {
         let mut small = [OLD; 3];
         let mut room = [OLD; 64];
-        let (first, second) = write_twice(&mut small, &mut room);
-        assert!(rt; matches!(first, Err(Refusal::OutputTooSmall)));
+        let mut receipt = Receipt::issue(1, 10);
+        let first = receipt.write_notices(&JOURNAL, &mut small);
+        let second = write_or_lay_aside(receipt, &mut room);
+        assert_eq!(rt; first, Err(Refusal::OutputTooSmall));
         assert!(rt; holds(&small, b""));
         assert_eq!(rt; second, Ok(TOLD_LENGTH));
         assert!(rt; holds(&room, TOLD));
@@ -235,7 +212,13 @@ mod tests {
         let answer = receipt.write_notices(&JOURNAL, &mut []);
         let (first, count) = (receipt.first(), receipt.count());
         receipt.lay_aside();
-        assert!(rt; matches!(answer, Err(Refusal::PastJournal)));
+        assert_eq!(rt; answer, Err(Refusal::PastJournal));
         assert_eq!(rt; (first, count), (12, 1));
+    }
+
+    #[test]
+    fn refusals_go_out_by_number(rt: HostRuntime) {
+        assert_eq!(rt; u32::from(Refusal::PastJournal), 24);
+        assert_eq!(rt; u32::from(Refusal::OutputTooSmall), 25);
     }
 }

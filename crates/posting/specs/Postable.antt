@@ -15,7 +15,7 @@ use Rattle.posting.specs.Sides.{There, account}
 -- memory shows the accounts of the lines written
 pub record Showing (d : Desk) : Type 0 where
   pub written : d.used ≤ length d.lines.now
-  pub each_day : length d.free.now ≡ length d.amounts.now
+  pub each_day : length d.free.now ≡ length d.posted.amounts.now
   pub shown : Shown (balance (view d).lines) d.free.now d.places.now
 
 -- a line may be posted: its giver has the MW, its sides are there, and so is a journal line for it

@@ -5,7 +5,7 @@ ghost use Rattle.posting.specs.Sides.{Reach, stands, put_free, put_places};
 use desk::memory::Desk;
 
 // Free, flown, what the record in a place holds, and what is set aside of it.
-#[derive(Clone, Copy)]
+#[derive(Clone, Copy, Debug, PartialEq, Eq)]
 pub enum Side {
     Free,
     Flown,
@@ -18,13 +18,18 @@ pub fn standing_in(desk: &Desk, side: Side, day: u32) -> u32
     requires { Reach (length desk.now.free.now) desk.now.places.now side day }
     ensures { result ≡ stands desk.now.free.now desk.now.places.now side day }
 {
+    let places = &*desk.places;
     match side {
         Side::Free => desk.free[day as usize],
         Side::Flown => 0,
-        Side::Held(i) => desk.places[i].held[(day
-            - desk.places[i].standing.request.start) as usize],
-        Side::Aside(i) => desk.places[i].aside[(day
-            - desk.places[i].standing.request.start) as usize],
+        Side::Held(i) => {
+            let record = &places[i];
+            record.held[(day - record.standing.request.start) as usize]
+        }
+        Side::Aside(i) => {
+            let record = &places[i];
+            record.aside[(day - record.standing.request.start) as usize]
+        }
     }
 }
 
@@ -37,8 +42,7 @@ pub fn put(desk: &mut Desk, side: Side, day: u32, mw: u32)
     ensures used { desk.new.used ≡ desk.old.used }
     ensures clock { desk.new.clock ≡ desk.old.clock }
     ensures top { desk.new.top ≡ desk.old.top }
-    ensures amounts { desk.new.amounts.now ≡ desk.old.amounts.now }
-    ensures preschedule { desk.new.preschedule.now ≡ desk.old.preschedule.now }
+    ensures posted { desk.new.posted ≡ desk.old.posted }
 {
     match side {
         Side::Free => {
@@ -46,14 +50,12 @@ pub fn put(desk: &mut Desk, side: Side, day: u32, mw: u32)
         }
         Side::Flown => {}
         Side::Held(i) => {
-            let mut record = desk.places[i];
-            record.held[(day - record.standing.request.start) as usize] = mw;
-            desk.places[i] = record;
+            let one = &mut desk.places[i];
+            one.held[(day - one.standing.request.start) as usize] = mw;
         }
         Side::Aside(i) => {
-            let mut record = desk.places[i];
-            record.aside[(day - record.standing.request.start) as usize] = mw;
-            desk.places[i] = record;
+            let one = &mut desk.places[i];
+            one.aside[(day - one.standing.request.start) as usize] = mw;
         }
     }
 }

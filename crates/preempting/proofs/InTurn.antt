@@ -1,6 +1,7 @@
 -- The next defender on the shelf, when those before it were visited: it stands ready where it stood.
-use Rattle.std.proofs.Common.{◌≡◌, ℕ, ◌<◌, List, [], ◌∷◌, length, get_or, Some, sym, ap, ◌∙◌, subst, arith}
-use Rattle.std.specs.List.{AllByRecursion, slice_get}
+use Rattle.std.proofs.Common.{◌≡◌, ℕ, ◌<◌, List, [], ◌∷◌, length, get_or, sym, ap, ◌∙◌, subst, arith}
+use Rattle.std.specs.List.{AllByRecursion}
+use Rattle.std.proofs.ByRecursion.{All-get_or}
 use Rattle.std.proofs.lemmas.List.{get_or-map}
 use Rattle.terms.specs.declared.request.Request.{Request}
 use Rattle.shelf.specs.declared.defender.Defender.{Defender}
@@ -11,7 +12,6 @@ use Rattle.desk.specs.declared.memory.Desk.{Desk}
 use Rattle.desk.specs.Desks.{view}
 use Rattle.posting.specs.Postable.{with_lines}
 use Rattle.defending.specs.LinedUp.{entry_at, lined}
-use Rattle.defending.proofs.ShelfReads.{entry_is, entry_holds}
 use Rattle.moving.proofs.SameView.{same_length}
 use Rattle.preempting.specs.Visits.{StandsReady, AllReady}
 
@@ -26,12 +26,14 @@ ready_later r v w e S days L = record {
   inside = omega (arith, S.inside, ap (λ ds. length ds.amounts) days);
 }
 
-module _ (d : Desk) (r : Request) (xs : List Defender) (ready : AllReady r d xs) (j : ℕ) (lt : j < length xs) (x : Defender) (is : Some x ≡ slice_get xs j) where
+module _ (d : Desk) (r : Request) (xs : List Defender) (ready : AllReady r d xs) (j : ℕ) (lt : j < length xs) (x : Defender) (is : x ≡ get_or xs j x) where
   pub named_in_line : entry_at (view d).places x.place ≡ get_or (lined (view d).places xs) j nobody
-  named_in_line = ap (λ (y : Defender). entry_at (view d).places y.place) (entry_is xs j lt x is x) ∙ sym (get_or-map (λ y. entry_at (view d).places y.place) xs j x nobody lt)
+  named_in_line = ap (λ (y : Defender). entry_at (view d).places y.place) is ∙ sym (get_or-map (λ y. entry_at (view d).places y.place) xs j x nobody lt)
 
   own_ready : (x.place < length d.places.now) × StandsReady r (view d) (entry_at (view d).places x.place)
-  own_ready = entry_holds xs j lt x is (λ y. (y.place < length d.places.now) × StandsReady r (view d) (entry_at (view d).places y.place)) ready
+  own_ready =
+      let P = λ (y : Defender). (y.place < length d.places.now) × StandsReady r (view d) (entry_at (view d).places y.place) in
+      subst P (sym is) (All-get_or P xs j x lt ready)
 
   module _ (e : Desk) (ls : List Line) (V : view e ≡ with_lines (view d) ls) (L : Later r (view d).lines ls) where
     pub still_within : x.place < length e.places.now

@@ -6,76 +6,73 @@ ghost use Rattle.law.specs.View.{aref_of};
 ghost use Rattle.law.specs.Preemption.{meets_shortage};
 ghost use Rattle.defending.specs.LinedUp.{entry_at};
 ghost use Rattle.desk.specs.Desks.{view};
-ghost use Rattle.moving.specs.Midway.{Midway, with_places};
+ghost use Rattle.moving.specs.Midway.{with_places};
 ghost use Rattle.preempting.specs.Giving.{challenged_by, Seated, Begun};
 ghost use Rattle.preempting.specs.Visits.{StandsReady, ShortShown};
 
 use crate::giving::Giving;
 use defending::shortage::visit;
-use desk::memory::Desk;
-use moving::seat;
+use desk::record::{MOST_DAYS, Record};
+use moving::ledger::Ledger;
 use sheets::RuleSheet;
-use terms::posted::Posted;
-use terms::request::Request;
+use terms::request::{Request, Standing};
 use terms::words::State;
 
 // The record in a place is challenged: it may match until its answer-by minute.
 pub fn challenge<S: RuleSheet>(
-    desk: &mut Desk,
+    ledger: &mut Ledger,
     sheet: &S,
     minute: u32,
     request: &Request,
     place: usize,
 )
-    requires midway { Midway desk.old }
-    requires within { place < length desk.old.places.now }
-    requires ready { StandsReady request.now (view desk.old) (entry_at (view desk.old).places place) }
+    requires within { place < length ledger.old.desk.places.now }
+    requires ready { StandsReady request.now (view ledger.old.desk) (entry_at (view ledger.old.desk).places place) }
     requires early { minute ≤ 1000000 }
     requires possible { Possible request.now }
-    requires in_time { (S.rules sheet.now).in_time request.now minute (view desk.old).days ≡ true }
-    requires none { (day : ℕ) → balance (view desk.old).lines (aside (aref_of (entry_at (view desk.old).places place)) request.now.aref) day ≡ 0 }
-    ensures midway { Midway desk.new }
-    ensures view { view desk.new ≡ with_places (view desk.old) (slice_set (view desk.old).places place (challenged_by (S.rules sheet.now) minute request.now (view desk.old).days (entry_at (view desk.old).places place))) }
+    requires in_time { (S.rules sheet.now).in_time request.now minute (view ledger.old.desk).days ≡ true }
+    requires none { (day : ℕ) → balance (view ledger.old.desk).lines (aside (aref_of (entry_at (view ledger.old.desk).places place)) request.now.aref) day ≡ 0 }
+    ensures view { view ledger.new.desk ≡ with_places (view ledger.old.desk) (slice_set (view ledger.old.desk).places place (challenged_by (S.rules sheet.now) minute request.now (view ledger.old.desk).days (entry_at (view ledger.old.desk).places place))) }
 {
-    let mut one = desk.places[place];
-    let posted = Posted {
-        amounts: desk.amounts,
-        preschedule: desk.preschedule,
-    };
+    let one = ledger.desk.places[place];
+    let posted = ledger.desk.posted;
     let answer_by = sheet.answer_by(request, &one.standing, minute, &posted);
-    let none = [0; 31];
-    one.standing.state = State::Challenged;
-    one.due = answer_by as u32;
-    one.against = request.aref;
-    one.aside = none;
-    seat(desk, place, one);
+    let challenged = Record {
+        standing: Standing {
+            state: State::Challenged,
+            ..one.standing
+        },
+        due: answer_by as u32,
+        against: request.aref,
+        aside: [0; MOST_DAYS],
+        ..one
+    };
+    ledger.seat(place, challenged);
 }
 
 // Begins the visit to a record: none where it is pending or meets no shortage; else it is challenged if it may match, and
 // gives.
 pub fn begin_visit<S: RuleSheet>(
-    desk: &mut Desk,
+    ledger: &mut Ledger,
     sheet: &S,
     minute: u32,
     request: &Request,
     challenger: usize,
     place: usize,
-    short: &[u32; 31],
+    short: &[u32; MOST_DAYS],
 ) -> Option<Giving>
-    requires midway { Midway desk.old }
-    requires within { place < length desk.old.places.now }
-    requires ready { StandsReady request.now (view desk.old) (entry_at (view desk.old).places place) }
-    requires seated { Seated (view desk.old) request.now challenger }
-    requires short { ShortShown request.now (view desk.old).lines short.now }
+    requires within { place < length ledger.old.desk.places.now }
+    requires ready { StandsReady request.now (view ledger.old.desk) (entry_at (view ledger.old.desk).places place) }
+    requires seated { Seated (view ledger.old.desk) request.now challenger }
+    requires short { ShortShown request.now (view ledger.old.desk).lines short.now }
     requires inside { request.now.start + request.now.length ≤ 400 }
     requires early { minute ≤ 1000000 }
     requires possible { Possible request.now }
-    requires in_time { (S.rules sheet.now).in_time request.now minute (view desk.old).days ≡ true }
-    requires none { (day : ℕ) → balance (view desk.old).lines (aside (aref_of (entry_at (view desk.old).places place)) request.now.aref) day ≡ 0 }
-    ensures midway { Midway desk.new }
-    ensures begun { Begun (S.rules sheet.now) minute request.now challenger place (view desk.old) desk.new result }
+    requires in_time { (S.rules sheet.now).in_time request.now minute (view ledger.old.desk).days ≡ true }
+    requires none { (day : ℕ) → balance (view ledger.old.desk).lines (aside (aref_of (entry_at (view ledger.old.desk).places place)) request.now.aref) day ≡ 0 }
+    ensures begun { Begun (S.rules sheet.now) minute request.now challenger place (view ledger.old.desk) ledger.new.desk result }
 {
-    let one = desk.places[place];
+    let one = ledger.desk.places[place];
     if one.standing.state.is_pending() {
         return None;
     }
@@ -85,7 +82,7 @@ pub fn begin_visit<S: RuleSheet>(
     }
     let right = sheet.may_match(request, &one.standing);
     if right {
-        challenge(desk, sheet, minute, request, place);
+        challenge(ledger, sheet, minute, request, place);
     }
     Some(Giving {
         minute,

@@ -1,4 +1,3 @@
 -- What the proofs of several functions share.
 pub mod Writing
-pub mod Digits
 pub mod Telling

@@ -4,11 +4,11 @@ use Rattle.journal.specs.declared.line.Line.{Line}
 use Rattle.journal.specs.Kinds.{line_number, gives_way}
 
 -- a number in decimal, and the byte that ends it
-unfoldable pub field : ℕ → ℕ → List ℕ
+abbrev pub field : ℕ → ℕ → List ℕ
 field n end = decimal n ++ (end ∷ [])
 
 -- AREF a, the kind's number and the challenger's AREF, each ended by a blank (32), the last by a line feed (10)
-unfoldable pub notice : Line → List ℕ
+abbrev pub notice : Line → List ℕ
 notice l = field l.a 32 ++ (field (line_number l.kind) 32 ++ field l.b 10)
 
 -- was a record told by one of the lines that it gives way

@@ -1,6 +1,6 @@
 // Receipts for journal lines: each is owed until it is laid aside or its notices are written.
 #![tactic(auto)]
 
-mod decimal;
 mod notice;
+mod output;
 pub mod receipt;

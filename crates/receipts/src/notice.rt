@@ -1,52 +1,39 @@
 // Notices: which lines give one, how long it is, and its bytes written into an output.
 ghost use Rattle.std.specs.Prelude.{◌≡◌, ◌+◌, ◌^◌, ◌<◌, ◌≤◌, [], length};
-ghost use Rattle.receipts.specs.Notices.{field, notice, told, gives_notice, notices};
-ghost use Rattle.receipts.specs.Output.{written};
+ghost use Rattle.receipts.specs.Notices.{notice, told, gives_notice, notices};
+ghost use Rattle.receipts.specs.Output.{Puts, written};
 
-use crate::decimal::{decimal_length, write_decimal};
+use crate::output::Output;
+use itoa::Buffer;
 use journal::line::Line;
 
-const BLANK: u8 = 32;
-
-const LINE_FEED: u8 = 10;
-
+// Three numbers, each with a byte behind it.
 fn notice_length(line: &Line) -> usize
     ensures { (result ≡ length (notice line.now)) × (result ≤ 33) }
 {
-    decimal_length(line.a) + decimal_length(line.kind.number()) + decimal_length(line.b) + 3
+    let mut buffer = Buffer::new();
+    buffer.format(line.a).len()
+        + buffer.format(u32::from(line.kind)).len()
+        + buffer.format(line.b).len()
+        + 3
 }
 
-// Writes a number and the byte that ends it, and answers the place behind them.
-fn write_field(n: u32, end: u8, out: &mut [u8], at: usize) -> usize
-    requires { at + length (field n end) ≤ length out.old }
-    ensures { (result ≡ at + length (field n end)) × (out.new ≡ written at (field n end) out.old) }
+fn write_notice(line: &Line, out: &mut Output)
+    requires { out.old.at + length (notice line.now) ≤ length out.old.bytes.now }
+    ensures { Puts out.old (notice line.now) out.new }
 {
-    write_decimal(n, out, at);
-    let place = at + decimal_length(n);
-    out[place] = end;
-    place + 1
-}
-
-// Writes a line's notice, and answers the place behind it.
-fn write_notice(line: &Line, out: &mut [u8], at: usize) -> usize
-    requires { at + length (notice line.now) ≤ length out.old }
-    ensures { (result ≡ at + length (notice line.now)) × (out.new ≡ written at (notice line.now) out.old) }
-{
-    let kind_at = write_field(line.a, BLANK, out, at);
-    let challenger_at = write_field(line.kind.number(), BLANK, out, kind_at);
-    write_field(line.b, LINE_FEED, out, challenger_at)
+    out.put_field(line.a, b' ');
+    out.put_field(u32::from(line.kind), b' ');
+    out.put_field(line.b, b'\n');
 }
 
 // Has one of the lines told of a record that it gives way?
 fn is_told(aref: u32, lines: &[Line]) -> bool
     ensures { result ≡ told aref lines.now }
 {
-    for line in lines {
-        if line.kind.gives_way() && line.a == aref {
-            return true;
-        }
-    }
-    false
+    lines
+        .iter()
+        .any(|line| line.kind.gives_way() && line.a == aref)
 }
 
 fn gives_notice(earlier: &[Line], line: &Line) -> bool
@@ -62,7 +49,7 @@ pub(crate) fn notices_length(lines: &[Line]) -> usize
 {
     let mut total = 0;
     for (i, line) in lines.iter().enumerate() {
-        if gives_notice(&lines[0..i], line) {
+        if gives_notice(&lines[..i], line) {
             total += notice_length(line);
         }
     }
@@ -74,10 +61,10 @@ pub(crate) fn write_notices(lines: &[Line], out: &mut [u8])
     requires { length (notices [] lines.now) ≤ length out.old }
     ensures { out.new ≡ written 0 (notices [] lines.now) out.old }
 {
-    let mut at = 0;
+    let mut out = Output::new(out);
     for (i, line) in lines.iter().enumerate() {
-        if gives_notice(&lines[0..i], line) {
-            at = write_notice(line, out, at);
+        if gives_notice(&lines[..i], line) {
+            write_notice(line, &mut out);
         }
     }
 }

@@ -6,7 +6,8 @@ use crate::notice;
 use journal::line::Line;
 use terms::refusal::Refusal;
 
-// Journal lines by number: the first, counted from 0, and how many.
+// Journal lines by number: the first, counted from 0, and how many. That it is spent is a mark, and no state as a type,
+// because a receipt may be asked for its notices again and its drop demands the mark.
 pub struct Receipt {
     first: u32,
     count: u32,
@@ -62,13 +63,9 @@ impl Receipt {
         ensures output { out.new ≡ filled result (told_by self.old lines.now) out.old }
         ensures receipt { self.new ≡ kept_or_settled result self.old }
     {
-        let Receipt { first, count, .. } = *self;
-        let start = first as usize;
-        let end = start + count as usize;
-        if end > lines.len() {
-            return Err(Refusal::PastJournal);
-        }
-        let own = &lines[start..end];
+        let start = self.first as usize;
+        let end = start + self.count as usize;
+        let own = lines.get(start..end).ok_or(Refusal::PastJournal)?;
         let length = notice::notices_length(own);
         if length > out.len() {
             return Err(Refusal::OutputTooSmall);

@@ -1,31 +1,7 @@
 -- Tests of each day of a term, as loops make them.
-use Rattle.std.proofs.Common.{◌≡◌, ℕ, zero, suc, ◌+◌, ◌-◌, ◌<◌, ◌≤◌, Bool, true, false, cond, ◌&&◌, eqb, ◌⊎◌, sym, refl, ap, ◌∙◌, inl, inr, arith}
-use Rattle.std.proofs.lemmas.Bool.{ne_eqb, and_left, and_right, cases_Bool}
+use Rattle.std.proofs.Common.{◌≡◌, ℕ, zero, suc, ◌+◌, Bool, true, false, cond, ◌&&◌, eqb, ◌⊎◌, sym, refl, ap, ◌∙◌, inl, inr, arith}
+use Rattle.std.proofs.lemmas.Bool.{ne_eqb, and_right, cases_Bool}
 use Rattle.law.specs.Posting.{each_day, busy_days}
-
-module _ (p : ℕ → Bool) (s n : ℕ) where
-  pub each_start : each_day p (s + 0) (n - 0) ≡ each_day p s n
-  each_start = let e : s + 0 ≡ s = omega arith in let f : n - 0 ≡ n = omega arith in ap (λ (x : ℕ). each_day p x (n - 0)) e ∙ ap (each_day p s) f
-
-  module _ (k : ℕ) where
-    each_step : k < n → each_day p (s + k) (n - k) ≡ (p (s + k) && each_day p (s + (k + 1)) (n - (k + 1)))
-    unfolding each_day
-    each_step h =
-        let e : n - k ≡ suc (n - (k + 1)) = omega arith in
-        let f : suc (s + k) ≡ s + (k + 1) = omega arith in
-        ap (each_day p (s + k)) e ∙ ap (λ (x : ℕ). p (s + k) && each_day p x (n - (k + 1))) f
-
-    -- a day that fails decides
-    pub each_fails : k < n → p (s + k) ≡ false → each_day p (s + k) (n - k) ≡ false
-    each_fails h q = each_step h ∙ and_left _ _ q
-
-    -- a day that passes leaves it to the days after it
-    pub each_passes : k < n → p (s + k) ≡ true → each_day p (s + (k + 1)) (n - (k + 1)) ≡ each_day p (s + k) (n - k)
-    each_passes h q = sym (each_step h ∙ ap (λ (b : Bool). b && each_day p (s + (k + 1)) (n - (k + 1))) q)
-
-    pub each_end : n ≤ k → each_day p (s + k) (n - k) ≡ true
-    unfolding each_day
-    each_end h = let e : n - k ≡ 0 = omega arith in ap (each_day p (s + k)) e
 
 with_true : (b : Bool) → (b && true) ≡ b
 with_true true = refl

@@ -2,7 +2,7 @@
 use Rattle.std.proofs.Common.{◌≡◌, ℕ, ◌+◌, ◌<◌, ◌≤◌, true, false, cond, leb, ◌⊎◌, length, get_or, set, sym, refl, ap, ◌∙◌, inl, inr, arith}
 use Rattle.std.proofs.ByRecursion.{All-get_or}
 use Rattle.std.proofs.lemmas.List.{get_or-map, length-map}
-use Rattle.std.proofs.lemmas.Bool.{cases_Bool, cond-true, cond-false, le-leb, lt-leb}
+use Rattle.std.proofs.lemmas.Bool.{cases_Bool, cond-true, cond-false}
 use Rattle.terms.specs.declared.words.State.{State}
 use Rattle.terms.specs.Words.{is_living}
 use Rattle.journal.specs.Accounts.{Account, held, aside, balance}
@@ -81,23 +81,11 @@ module _ (d : Desk) (M : Midway d) (i : ℕ) (h : i < length d.places.now) (l : 
       early = early_term;
     }
 
-    -- a day on which its place has its MW, or less
-    module _ (k : ℕ) (lt : k < (place d.places.now i).standing.request.length) where
-      pub in_term : k < length_of (get_or (view d).places i nobody)
-      in_term = omega (arith, ap length_of there_is)
-
-      holds_here : get_or (place d.places.now i).held k 0 ≡ holding (view d).lines (aref_of (get_or (view d).places i nobody)) (start_of (get_or (view d).places i nobody) + k)
-      holds_here = holds_is k (omega (arith, short_term))
-
-      asks : (get_or (view d).places i nobody).standing.request.mw ≡ (place d.places.now i).standing.request.mw
-      asks = ap (λ (e : Entry). e.standing.request.mw) there_is
-
-      pub enough : (place d.places.now i).standing.request.mw ≤ get_or (place d.places.now i).held k 0 →
-          leb (wanted (get_or (view d).places i nobody).standing.request (start_of (get_or (view d).places i nobody) + k)) (holding (view d).lines (aref_of (get_or (view d).places i nobody)) (start_of (get_or (view d).places i nobody) + k)) ≡ true
-      unfolding wanted
-      enough q = le-leb _ _ (omega (arith, holds_here, asks))
-
-      pub too_little : get_or (place d.places.now i).held k 0 < (place d.places.now i).standing.request.mw →
-          leb (wanted (get_or (view d).places i nobody).standing.request (start_of (get_or (view d).places i nobody) + k)) (holding (view d).lines (aref_of (get_or (view d).places i nobody)) (start_of (get_or (view d).places i nobody) + k)) ≡ false
-      unfolding wanted
-      too_little q = lt-leb _ _ (omega (arith, holds_here, asks))
+    -- it has its MW on a day where its place has them
+    pub tests_alike : (k : ℕ) → k < length_of (get_or (view d).places i nobody) →
+        leb (wanted (get_or (view d).places i nobody).standing.request (start_of (get_or (view d).places i nobody) + k)) (holding (view d).lines (aref_of (get_or (view d).places i nobody)) (start_of (get_or (view d).places i nobody) + k))
+        ≡ leb (place d.places.now i).standing.request.mw (get_or (place d.places.now i).held k 0)
+    unfolding wanted
+    tests_alike k lt =
+        ap (λ (e : Entry). leb e.standing.request.mw (holding (view d).lines (aref_of (get_or (view d).places i nobody)) (start_of (get_or (view d).places i nobody) + k))) there_is
+        ∙ ap (leb (place d.places.now i).standing.request.mw) (sym (holds_is k (omega (arith, t.0))))

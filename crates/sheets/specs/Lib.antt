@@ -3,3 +3,4 @@ pub mod Raised
 pub mod Laws
 pub mod Turn
 pub mod Minutes
+pub mod FallingDue

@@ -1,6 +1,7 @@
 // The rule sheet: the questions that a book asks of a tariff, and what the answers owe.
 #![tactic(auto)]
 
+pub mod falling_due;
 pub mod minutes;
 
 ghost use Rattle.std.specs.Prelude.{◌≡◌};

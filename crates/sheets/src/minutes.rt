@@ -6,8 +6,5 @@ ghost use Rattle.sheets.specs.Minutes.{not_past};
 pub fn not_past(last: Option<u64>, minute: u32) -> bool
     ensures { result ≡ not_past last minute }
 {
-    match last {
-        Some(last) => minute as u64 <= last,
-        None => false,
-    }
+    last.is_some_and(|last| u64::from(minute) <= last)
 }

@@ -25,6 +25,6 @@ impl Order<Due> for ByMinute {
     ghost total = { Prim.search rules };
 
     fn goes_before(&self, one: &Due, other: &Due) -> bool {
-        one.minute < other.minute || (one.minute == other.minute && one.aref < other.aref)
+        (one.minute, one.aref) < (other.minute, other.aref)
     }
 }

@@ -11,7 +11,8 @@ pub mod taking;
 
 ghost use Rattle.std.specs.Prelude.{◌≤◌, length};
 
-// The entry that comes off first stands in the last used slot, so that taking it off moves no other.
+// The entry that comes off first stands in the last used slot, so that taking it off moves no other. The slots are lent,
+// with a count beside, because no call may allocate.
 #[derive(Drop)]
 pub struct Shelf<'a, T> {
     slots: &'a mut [T],

@@ -1,5 +1,5 @@
 // An empty shelf, and what stands on a shelf without taking it off.
-ghost use Rattle.std.specs.Prelude.{◌≡◌, [], length};
+ghost use Rattle.std.specs.Prelude.{◌≡◌, [], length, take};
 ghost use Rattle.std.specs.List.{slice_get};
 ghost use Rattle.shelf.specs.Contents.{contents, room};
 
@@ -14,6 +14,14 @@ impl<'a, T: Copy> Shelf<'a, T> {
         Shelf { slots, used: 0 }
     }
 
+    // The entries in their slots: the one that comes off first stands last.
+    pub fn entries(&self) -> &[T]
+        ensures { result.now ≡ take self.now.used self.now.slots.now }
+    {
+        let slots: &[T] = self.slots;
+        &slots[..self.used]
+    }
+
     // How many entries stand on the shelf.
     pub fn len(&self) -> usize
         ensures { result ≡ length (contents self.now) }
@@ -25,11 +33,6 @@ impl<'a, T: Copy> Shelf<'a, T> {
     pub fn at(&self, others: usize) -> Option<T>
         ensures { result ≡ slice_get (contents self.now) others }
     {
-        if others >= self.used {
-            return None;
-        }
-        let slots: &[T] = self.slots;
-        let slot = self.used - 1 - others;
-        Some(slots[slot])
+        self.entries().iter().rev().nth(others).copied()
     }
 }

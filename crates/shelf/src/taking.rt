@@ -10,10 +10,7 @@ impl<T: Copy> Shelf<'_, T> {
         ensures off { ComesOff result (contents self.old) (contents self.new) }
         ensures same_room { room self.new ≡ room self.old }
     {
-        if self.used == 0 {
-            return None;
-        }
-        let last = self.used - 1;
+        let last = self.used.checked_sub(1)?;
         self.used = last;
         Some(self.slots[last])
     }

@@ -25,7 +25,7 @@ impl CheckedRequest {
         self.request
     }
 
-    // Spends the checked request.
+    // Spends the checked request. It keeps its name, since `Request::from` would not say that anything is spent.
     pub fn into_request(self) -> Request
         ensures { (result ≡ self.request) × (sellable result ≡ true) }
     {
@@ -39,30 +39,15 @@ impl RequestForm {
     pub fn check(self) -> Result<CheckedRequest, Refusal>
         ensures { elim result [ Ok c ↦ judged self ≡ Ok c.request | Err e ↦ judged self ≡ Err e ] }
     {
-        let (Some(kind), Some(product), Some(preconfirmed)) = (
-            Kind::from_number(self.kind),
-            Product::from_number(self.product),
-            mark_from_number(self.preconfirmed),
-        ) else {
-            return Err(Refusal::UnknownNumber);
-        };
-        let RequestForm {
-            aref,
-            start,
-            length,
-            mw,
-            price,
-            ..
-        } = self;
         check_limits(Request {
-            aref,
-            kind,
-            product,
-            start,
-            length,
-            mw,
-            preconfirmed,
-            price,
+            aref: self.aref,
+            kind: Kind::try_from(self.kind)?,
+            product: Product::try_from(self.product)?,
+            start: self.start,
+            length: self.length,
+            mw: self.mw,
+            preconfirmed: mark_from_number(self.preconfirmed)?,
+            price: self.price,
         })
     }
 }
@@ -73,7 +58,7 @@ fn check_limits(request: Request) -> Result<CheckedRequest, Refusal>
     if !request.product.is_sold_for(request.length) {
         return Err(Refusal::BadLength);
     }
-    if request.mw < 1 || request.mw > MOST_MW {
+    if !(1..=MOST_MW).contains(&request.mw) {
         return Err(Refusal::BadAmount);
     }
     if request.price > MOST_PRICE {

@@ -5,7 +5,7 @@ ghost use Rattle.terms.specs.Days.{first_minute, day_of, minute_of_day, presched
 pub const MINUTES_A_DAY: u32 = 1_440;
 
 // The MW posted on each day from day 0 on, and each day's preschedule day.
-#[derive(Clone, Copy)]
+#[derive(Clone, Copy, Debug)]
 pub struct Posted<'a> {
     pub amounts: &'a [u32],
     pub preschedule: &'a [u32],
@@ -15,7 +15,7 @@ pub struct Posted<'a> {
 pub fn first_minute(day: u32) -> u64
     ensures { result ≡ first_minute day }
 {
-    MINUTES_A_DAY as u64 * day as u64
+    u64::from(MINUTES_A_DAY) * u64::from(day)
 }
 
 // The day that a minute lies in.
@@ -38,10 +38,8 @@ impl Posted<'_> {
         ensures value { result ≡ preschedule_minute (days_of self.now) day }
         ensures bound { IfSome result (λ m. m < 2 ^ 43) }
     {
-        let index = day as usize;
-        if index < self.preschedule.len() {
-            return Some(first_minute(self.preschedule[index]));
-        }
-        None
+        self.preschedule
+            .get(day as usize)
+            .map(|preschedule| first_minute(*preschedule))
     }
 }

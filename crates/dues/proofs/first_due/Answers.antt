@@ -1,44 +1,53 @@
-use Rattle.std.proofs.Common.{◌≡◌, ◌-◌, true, map, length, drop, sym, ap, ◌∙◌, subst, arith}
+use Rattle.std.proofs.Common.{◌≡◌, length, sym, ap, ◌∙◌, cond, Ok, Err, arith}
 use Rattle.std.proofs.lemmas.Bool.{lt-ltb}
+use Rattle.std.proofs.Math.Seq.{take-length}
+use Rattle.shelf.specs.Due.{sooner as comes-sooner}
+use Rattle.shelf.specs.Order.{put}
 use Rattle.shelf.specs.Contents.{contents, room}
 use Rattle.desk.specs.Records.{entry_of}
-use Rattle.dues.proofs.DueItems.{Heads, turn_none, turn_past, turn_more, first_is, one_more}
+use Rattle.desk.proofs.FromTheLast.{one_back}
+use Rattle.dues.proofs.DueItems.{item, turn_none, turn_past, turn_more, one_more}
 use Rattle.dues.proofs.first_due.Goals as goal
 
-pub loop-i-init : goal.loop-i-init
-loop-i-init c =
-    let e = c.over-shelf.ensures.empty in let places = c.args.places.now in
-    (c.over-shelf.ensures.holds, omega (arith, ap length e), subst (Heads c.args.minute (length places) (map entry_of (drop (length places) places))) (sym e) (turn_none c.args.minute (length places) places (omega arith)))
+pub loop-place-init : goal.loop-place-init
+loop-place-init c =
+    let places = c.args.places.now in
+    let whole : c.into_iter-place-iterator.result.iter.iter.rest.now ≡ places =
+    ap (λ s. s.iter.iter.rest.now) (c.into_iter-place-iterator.ensures.into_iter_gives) ∙ ap (λ s. s.iter.rest.now) c.rev-place-items.ensures.source
+    ∙ ap (λ s. s.rest.now) c.enumerate.ensures.source ∙ c.iter.ensures.rest in
+    let count : c.into_iter-place-iterator.result.iter.count ≡ 0 =
+    ap (λ s. s.iter.count) (c.into_iter-place-iterator.ensures.into_iter_gives) ∙ ap (λ s. s.count) c.rev-place-items.ensures.source ∙ c.enumerate.ensures.count in
+    let empty = c.over-shelf.ensures.empty in
+    (count, rw whole (sym (take-length places)), c.over-shelf.ensures.holds, rw (whole, empty) (omega arith), rw (whole, empty) (turn_none c.args.minute (length places) places (omega arith)))
 
-pub loop-i-preserved-then-fell_due : goal.loop-i-preserved-then-fell_due
-loop-i-preserved-then-fell_due c =
-    let xs = contents c.loop-i.shelf in let i = c.loop-i.i in let places = c.args.places.now in
-    let free : c.put.result ≡ true = c.put.ensures.answer ∙ lt-ltb (length xs) (room c.loop-i.shelf) (omega (arith, c.loop-i.invariant.0, c.loop-i.invariant.1, c.requires, c.loop-i-test.true)) in
-    let e = c.put.ensures.taken free in (
-      c.put.ensures.same_room ∙ c.loop-i.invariant.0,
-      omega (arith, one_more xs (contents c.put.new.self) _ e, c.loop-i.invariant.1, c.loop-i-test.true),
-      subst (Heads c.args.minute (i - 1) (map entry_of (drop (i - 1) places))) (sym e)
-          (turn_more c.args.minute i places _ c.loop-i-test.true c.loop-i.auto.i xs c.loop-i.invariant.2 (sym c.fell_due.ensures ∙ c.if-fell_due.true)),
+pub loop-place-preserved-then-fell_due : goal.loop-place-preserved-then-fell_due
+loop-place-preserved-then-fell_due c =
+    let steps = c.in-Some.ensures.steps in
+    let before = c.loop-place.invariant in
+    let xs = contents c.loop-place.shelf in
+    let one = c.in-Some.one.now in
+    let next = c.next.new.self.iter.iter.rest.now in
+    let back = one_back c.args.places.now c.loop-place.place-iterator.iter.iter.rest.now next one before.1 steps.1.0 in
+    let placed : c.in-Some.place ≡ length next = omega (arith, steps.1.1, before.0) in
+    let room_left : c.put.result ≡ Ok tt =
+    c.put.ensures.answer ∙ ap (λ b. cond b (Ok tt) (Err (item c.in-Some.place (entry_of one)))) (lt-ltb (length xs) (room c.loop-place.shelf) (omega (arith, c.requires, before.2, before.3, back.count))) in
+    let lined : contents c.put.new.self ≡ put comes-sooner xs (item (length next) (entry_of one)) =
+    (rw room_left at c.put.ensures.taken) ∙ ap (λ n. put comes-sooner xs (item n (entry_of one))) placed in (
+      steps.0 ∙ before.0,
+      back.firsts,
+      c.put.ensures.same_room ∙ before.2,
+      omega (arith, back.count, before.3, one_more xs (contents c.put.new.self) _ lined),
+      rw lined (turn_more c.args.minute c.args.places.now _ _ _ back xs before.4 (sym c.fell_due.ensures ∙ c.if-fell_due.true)),
     )
 
-pub loop-i-preserved : goal.loop-i-preserved
-loop-i-preserved c =
-    let xs = contents c.loop-i.shelf in let i = c.loop-i.i in let places = c.args.places.now in (
-      c.loop-i.invariant.0,
-      omega (arith, c.loop-i.invariant.1, c.loop-i-test.true),
-      turn_past c.args.minute i places _ c.loop-i-test.true c.loop-i.auto.i xs c.loop-i.invariant.2 (sym c.fell_due.ensures ∙ c.if-fell_due.false),
+pub loop-place-preserved : goal.loop-place-preserved
+loop-place-preserved c =
+    let steps = c.in-Some.ensures.steps in
+    let before = c.loop-place.invariant in
+    let back = one_back c.args.places.now c.loop-place.place-iterator.iter.iter.rest.now c.next.new.self.iter.iter.rest.now c.in-Some.one.now before.1 steps.1.0 in (
+      steps.0 ∙ before.0,
+      back.firsts,
+      before.2,
+      omega (arith, back.count, before.3),
+      turn_past c.args.minute c.args.places.now _ _ _ back (contents c.loop-place.shelf) before.4 (sym c.fell_due.ensures ∙ c.if-fell_due.false),
     )
-
-pub returns-in-None : goal.returns-in-None
-returns-in-None c =
-    let places = c.args.places.now in
-    let e : c.loop-i.i ≡ 0 = omega (arith, c.loop-i-test.false) in
-    let H = subst (λ n. Heads c.args.minute n (map entry_of (drop n places)) (contents c.loop-i.shelf)) e c.loop-i.invariant.2 in
-    subst (Heads c.args.minute 0 (map entry_of places)) c.in-None.ensures.off.0 H
-
-pub returns-in-Some : goal.returns-in-Some
-returns-in-Some c =
-    let places = c.args.places.now in
-    let e : c.loop-i.i ≡ 0 = omega (arith, c.loop-i-test.false) in
-    let H = subst (λ n. Heads c.args.minute n (map entry_of (drop n places)) (contents c.loop-i.shelf)) e c.loop-i.invariant.2 in
-    first_is c.args.minute (map entry_of places) c.in-Some.item (subst (Heads c.args.minute 0 (map entry_of places)) c.in-Some.ensures.off H)

@@ -1,13 +1,12 @@
-use Rattle.std.proofs.Common.{sym, ◌∙◌}
+use Rattle.std.proofs.Common.{◌∙◌, rules, tests}
+use Rattle.std.proofs.lemmas.Iterator.{YieldsList-from_slice}
+use Rattle.std.proofs.lemmas.Iterator.Search.{any_from_yields_List}
 use Rattle.law.specs.Calls.{is_due}
-use Rattle.looking.proofs.Seeking.{some_here, some_further, some_nowhere}
+use Rattle.desk.specs.Records.{entry_of}
+use Rattle.looking.proofs.Seeking.{some_by_records}
 use Rattle.looking.proofs.any_due.Goals as goal
 
-pub returns-then-fell_due : goal.returns-then-fell_due
-returns-then-fell_due c = sym (some_here (is_due c.args.minute) _ _ _ c.loop-one-test.true (sym c.fell_due.ensures ∙ c.if-fell_due.true)) ∙ c.loop-one.invariant
-
-pub loop-one-preserved : goal.loop-one-preserved
-loop-one-preserved c = some_further (is_due c.args.minute) _ _ _ c.loop-one-test.true (sym c.fell_due.ensures ∙ c.if-fell_due.false) ∙ c.loop-one.invariant
-
 pub returns : goal.returns
-returns c = sym (some_nowhere (is_due c.args.minute) _ _ c.loop-one-test.false) ∙ c.loop-one.invariant
+returns c =
+    any_from_yields_List (λ r. is_due c.args.minute (entry_of r)) c.any.new.self _ _ c.any.ensures.ran (YieldsList-from_slice c.args.places.now cc) (λ x b q k. search (rules, tests))
+    ∙ some_by_records (is_due c.args.minute) c.args.places.now

@@ -1,16 +1,12 @@
-use Rattle.std.proofs.Common.{sym, ◌∙◌}
+use Rattle.std.proofs.Common.{◌∙◌, rules, tests}
+use Rattle.std.proofs.lemmas.Iterator.{YieldsList-from_slice}
+use Rattle.std.proofs.lemmas.Iterator.Search.{position_from_yields_List}
 use Rattle.law.specs.View.{is}
-use Rattle.looking.proofs.Seeking.{first_from_start, first_here, first_further, first_nowhere}
+use Rattle.desk.specs.Records.{entry_of}
+use Rattle.looking.proofs.Seeking.{first_by_records}
 use Rattle.looking.proofs.place_of.Goals as goal
 
-pub loop-i-init : goal.loop-i-init
-loop-i-init c = first_from_start (is c.args.aref) c.args.places.now
-
-pub returns-then-stands_for : goal.returns-then-stands_for
-returns-then-stands_for c = first_here (is c.args.aref) _ _ _ c.loop-i-test.true (sym c.stands_for.ensures ∙ c.if-stands_for.true) ∙ c.loop-i.invariant
-
-pub loop-i-preserved : goal.loop-i-preserved
-loop-i-preserved c = first_further (is c.args.aref) _ _ _ c.loop-i-test.true (sym c.stands_for.ensures ∙ c.if-stands_for.false) ∙ c.loop-i.invariant
-
 pub returns : goal.returns
-returns c = first_nowhere (is c.args.aref) _ _ c.loop-i-test.false ∙ c.loop-i.invariant
+returns c =
+    position_from_yields_List (λ r. is c.args.aref (entry_of r)) c.position.new.self _ _ c.position.ensures.ran (YieldsList-from_slice c.args.places.now cc) (λ x b q k. search (rules, tests))
+    ∙ first_by_records (is c.args.aref) c.args.places.now

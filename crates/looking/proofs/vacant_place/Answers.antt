@@ -1,16 +1,12 @@
-use Rattle.std.proofs.Common.{not, sym, ◌∙◌}
+use Rattle.std.proofs.Common.{not, ◌∙◌, rules, tests}
+use Rattle.std.proofs.lemmas.Iterator.{YieldsList-from_slice}
+use Rattle.std.proofs.lemmas.Iterator.Search.{position_from_yields_List}
 use Rattle.law.specs.View.{living}
-use Rattle.looking.proofs.Seeking.{first_from_start, first_here, first_further, first_nowhere}
+use Rattle.desk.specs.Records.{entry_of}
+use Rattle.looking.proofs.Seeking.{first_by_records}
 use Rattle.looking.proofs.vacant_place.Goals as goal
 
-pub loop-i-init : goal.loop-i-init
-loop-i-init c = first_from_start (λ e. not (living e)) c.args.places.now
-
-pub returns-then-is_vacant : goal.returns-then-is_vacant
-returns-then-is_vacant c = first_here (λ e. not (living e)) _ _ _ c.loop-i-test.true (sym c.is_vacant.ensures ∙ c.if-is_vacant.true) ∙ c.loop-i.invariant
-
-pub loop-i-preserved : goal.loop-i-preserved
-loop-i-preserved c = first_further (λ e. not (living e)) _ _ _ c.loop-i-test.true (sym c.is_vacant.ensures ∙ c.if-is_vacant.false) ∙ c.loop-i.invariant
-
 pub returns : goal.returns
-returns c = first_nowhere (λ e. not (living e)) _ _ c.loop-i-test.false ∙ c.loop-i.invariant
+returns c =
+    position_from_yields_List (λ r. not (living (entry_of r))) c.position.new.self _ _ c.position.ensures.ran (YieldsList-from_slice c.args.places.now cc) (λ x b q k. search (rules, tests))
+    ∙ first_by_records (λ e. not (living e)) c.args.places.now

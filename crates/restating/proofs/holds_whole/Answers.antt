@@ -1,28 +1,25 @@
-use Rattle.std.proofs.Common.{sym, ap, ◌∙◌, arith}
-use Rattle.law.specs.View.{length_of}
-use Rattle.restating.proofs.DayTests.{each_start, each_fails, each_passes, each_end}
-use Rattle.restating.proofs.SameRecord.{there_is, short_term, in_term, enough, too_little}
+use Rattle.std.proofs.Common.{◌≡◌, leb, get_or, take, sym, ap, ◌∙◌, arith}
+use Rattle.std.specs.List.{list_all}
+use Rattle.std.proofs.ByRecursion.{All-get_or}
+use Rattle.law.specs.View.{aref_of, start_of, length_of, nobody}
+use Rattle.law.specs.Posting.{holding}
+use Rattle.law.specs.Preemption.{wanted}
+use Rattle.desk.specs.Desks.{view}
+use Rattle.posting.specs.Sides.{unread, place}
+use Rattle.moving.proofs.EachDay.{each_of_amounts}
+use Rattle.restating.proofs.SameRecord.{there_is, tests_alike}
+use Rattle.moving.proofs.LedgerKeeps.{midway_in}
 use Rattle.restating.proofs.holds_whole.Goals as goal
-
-pub loop-k-init : goal.loop-k-init
-loop-k-init c = each_start _ _ _
-
-pub bounds-desk-k : goal.bounds-desk-k
-bounds-desk-k c = let p = c.requires in omega (arith, c.loop-k-test.true, short_term c.args.desk.now p.midway c.args.i p.within p.lives p.term)
-
-pub returns-then-desk-i : goal.returns-then-desk-i
-returns-then-desk-i c =
-    let p = c.requires in let t = c.loop-k-test.true in
-    sym (each_fails _ _ _ c.loop-k.k (in_term c.args.desk.now p.midway c.args.i p.within p.lives p.term _ t) (too_little c.args.desk.now p.midway c.args.i p.within p.lives p.term _ t c.if-desk-i.true))
-    ∙ c.loop-k.invariant
-
-pub loop-k-preserved : goal.loop-k-preserved
-loop-k-preserved c =
-    let p = c.requires in let t = c.loop-k-test.true in
-    each_passes _ _ _ c.loop-k.k (in_term c.args.desk.now p.midway c.args.i p.within p.lives p.term _ t) (enough c.args.desk.now p.midway c.args.i p.within p.lives p.term _ t c.if-desk-i.false)
-    ∙ c.loop-k.invariant
 
 pub returns : goal.returns
 returns c =
-    let d = c.args.desk.now in let p = c.requires in
-    sym (each_end _ _ _ c.loop-k.k (omega (arith, c.loop-k-test.false, ap length_of (there_is d p.midway c.args.i p.within p.lives)))) ∙ c.loop-k.invariant
+    let p = c.requires in
+    let d = c.args.ledger.now.desk in
+    let e = get_or (view d).places c.args.i nobody in
+    let one = place d.places.now c.args.i in
+    let shows = All-get_or _ d.places.now c.args.i unread p.within (midway_in c.args.ledger.now).showing.shown.records in
+    let days : one.standing.request.length ≡ length_of e = sym (ap length_of (there_is d (midway_in c.args.ledger.now) c.args.i p.within p.lives)) in
+    c.each_reaches.ensures
+    ∙ ap (λ n. list_all (leb one.standing.request.mw) (take n one.held)) days
+    ∙ sym (each_of_amounts (λ day. leb (wanted e.standing.request day) (holding (view d).lines (aref_of e) day)) (leb one.standing.request.mw) one.held (start_of e) (length_of e)
+    (omega (arith, p.term.0, shows.held_days)) (tests_alike d (midway_in c.args.ledger.now) c.args.i p.within p.lives p.term))

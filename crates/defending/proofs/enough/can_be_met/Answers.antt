@@ -1,43 +1,24 @@
-use Rattle.std.proofs.Common.{◌≡◌, ℕ, ◌+◌, ◌<◌, ◌≤◌, Bool, true, leb, ◌⊎◌, sym, subst, inl, inr, arith}
-use Rattle.std.proofs.lemmas.Bool.{cases_eq}
+use Rattle.std.proofs.Common.{ℕ, ◌+◌, ◌-◌, ◌<◌, eqb, length, get_or, sum_by, refl, ◌∙◌, arith, rules}
+use Rattle.std.proofs.lemmas.Iterator.{serves_from_Range, YieldsList-from_range}
+use Rattle.std.proofs.lemmas.Iterator.Search.{all_from_yields_List}
 use Rattle.shelf.specs.Contents.{contents}
-use Rattle.law.specs.Posting.{free_on}
-use Rattle.law.specs.Preemption.{wanted, holdings}
-use Rattle.law.proofs.BeginsWhenDue.{each_from}
-use Rattle.desk.specs.Desks.{view}
-use Rattle.defending.specs.LinedUp.{lined}
+use Rattle.defending.specs.LinedUp.{held_in_place}
 use Rattle.defending.proofs.ShownInLine.{each_in_place}
-use Rattle.defending.proofs.MeetingADay.{met, not_met, each_not}
+use Rattle.defending.proofs.MeetingADay.{each_of_range, met_is}
 use Rattle.defending.proofs.enough.can_be_met.Goals as goal
 
-pub loop-day-init : goal.loop-day-init
-loop-day-init c = λ k lo hi. absurd (let z : ⊥ = omega arith in z)
-
-pub left_short-requires : goal.left_short-requires
-left_short-requires c = each_in_place c.args.desk.now c.requires.sound (contents c.args.shelf.now) c.requires.there
-
-pub returns-then-left_short-gt0 : goal.returns-then-left_short-gt0
-returns-then-left_short-gt0 c =
-    sym (each_not _ c.args.request.now.start c.args.request.now.length c.loop-day.day (omega arith) (omega arith)
-    (not_met c.args.desk.now c.requires.sound c.args.request.now (contents c.args.shelf.now) c.requires.there c.loop-day.day c.left_short.result c.saturating_sub-short.result
-    (omega arith) c.saturating_sub-short.ensures c.left_short.ensures c.if-left_short-gt0.true))
-
--- the days before, and this one
-one_day_more : (p : ℕ → Bool) (s day : ℕ) → ((k : ℕ) → s ≤ k → k < day → p k ≡ true) → p day ≡ true → (k : ℕ) → s ≤ k → k < day + 1 → p k ≡ true
-one_day_more p s day before here k lo hi = go (cases_eq day k)
-  where
-    go : (day ≡ k) ⊎ (day ≡ k → ⊥) → p k ≡ true
-    go (inl e) = subst (λ n. p n ≡ true) e here
-    go (inr e) = before k lo (omega arith)
-
-pub loop-day-preserved : goal.loop-day-preserved
-loop-day-preserved c =
-    let ls = (view c.args.desk.now).lines in
-    let ds = lined (view c.args.desk.now).places (contents c.args.shelf.now) in
-    one_day_more (λ day. leb (wanted c.args.request.now day) (free_on ls day + holdings ls ds day)) c.args.request.now.start c.loop-day.day c.loop-day.invariant
-    (met c.args.desk.now c.requires.sound c.args.request.now (contents c.args.shelf.now) c.requires.there c.loop-day.day c.left_short.result c.saturating_sub-short.result
-    (omega arith) c.saturating_sub-short.ensures c.left_short.ensures c.if-left_short-gt0.false)
+pub all-requires-clause-callable : goal.all-requires-clause-callable
+all-requires-clause-callable c =
+    serves_from_Range (λ x q r. search rules) (λ x lo hi.
+    let posted : x < length c.args.desk.now.free.now = omega (arith, c.requires.sound.each_day, c.requires.offered) in
+    let there = each_in_place c.args.desk.now c.requires.sound (contents c.args.shelf.now) c.requires.there in
+    search rules)
 
 pub returns : goal.returns
 returns c =
-    sym (each_from _ c.args.request.now.start c.args.request.now.length (λ k lo hi. c.loop-day.invariant k lo (omega arith)))
+    let d = c.args.desk.now in
+    let r = c.args.request.now in
+    let xs = contents c.args.shelf.now in
+    let left : ℕ → ℕ = λ day. c.args.request.now.mw - get_or c.args.desk.now.free.now day 0 - sum_by (held_in_place c.args.desk.now.places.now day) (contents c.args.shelf.now) in
+    all_from_yields_List (λ day. eqb (left day) 0) _ _ c.all.result c.all.ensures.ran (YieldsList-from_range r.start (r.start + r.length) r.length refl (omega arith)) (λ x b q called. (search rules, search rules))
+    ∙ each_of_range _ _ r.start r.length (λ day lo hi. met_is d c.requires.sound r xs c.requires.there day (omega (arith, c.requires.offered)))

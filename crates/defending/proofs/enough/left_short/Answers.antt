@@ -1,37 +1,31 @@
-use Rattle.std.proofs.Common.{◌-◌, ◌<◌, length, sum_by, ap, ◌∙◌, arith, rules}
-use Rattle.std.proofs.lemmas.List.{take_all, get_or_default}
+use Rattle.std.proofs.Common.{rules, ◌≡◌, ◌-◌, ◌<◌, map, length, get_or, ap, ◌∙◌}
+use Rattle.std.specs.List.{fold}
+use Rattle.std.proofs.ByRecursion.{All-get_or, All-weaker}
+use Rattle.std.proofs.lemmas.List.{get_or_default}
+use Rattle.std.proofs.lemmas.Iterator.Adapters.{YieldsList-from_rev_slice, serves_from_places}
+use Rattle.std.proofs.iter.runs.Made.{chains}
+use Rattle.shelf.specs.declared.defender.Defender.{Defender}
 use Rattle.shelf.specs.Contents.{contents}
 use Rattle.desk.specs.Records.{held_on, vacant}
 use Rattle.defending.specs.LinedUp.{held_in_place}
-use Rattle.defending.proofs.ShelfReads.{never_none, entry_holds, less_by_one_more}
+use Rattle.defending.proofs.CountingInLine.{unread}
+use Rattle.defending.proofs.ShelfReads.{taken_in_turn}
 use Rattle.defending.proofs.enough.left_short.Goals as goal
-use Rattle.defending.proofs.enough.left_short.Goals.{in-Some, in_default}
 
-pub loop-j-init : goal.loop-j-init
-loop-j-init c = omega arith
-
-pub bounds-places-one : goal.bounds-places-one
-bounds-places-one c =
-    entry_holds (contents c.args.shelf.now) c.loop-j.j (omega (arith, c.loop-j-test.true, c.len-j-end.ensures)) c.in-Some.one c.in-Some.ensures
-    (λ x. x.place < length c.args.places.now) c.requires
-
-pub offset_bounds-places-one : goal.offset_bounds-places-one
-offset_bounds-places-one c = let h = bounds-places-one c in search rules
-
-pub loop-j-preserved : goal.loop-j-preserved
-loop-j-preserved c =
-    let xs = contents c.args.shelf.now in
-    let here : c.loop-j.j < length (contents c.args.shelf.now) = omega (arith, c.loop-j-test.true, c.len-j-end.ensures) in
-    elim c.match-at.branch [
-      | in-Some w ↦
-          let within = entry_holds xs c.loop-j.j here w.in-Some.one w.in-Some.ensures (λ x. x.place < length c.args.places.now) c.requires in
-          w.left-is ∙ (w.saturating_sub-left.ensures
-          ∙ (ap (λ n. c.loop-j.left - n) (w.held_on.ensures ∙ ap (held_on c.args.day) (get_or_default c.args.places.now w.in-Some.one.place _ vacant within))
-          ∙ less_by_one_more xs c.loop-j.j here w.in-Some.one w.in-Some.ensures (held_in_place c.args.places.now c.args.day) c.args.short c.loop-j.left c.loop-j.invariant))
-      | in_default w ↦ absurd (never_none xs c.loop-j.j here w.in_default.ensures)
-    ]
+pub fold-requires-clause-can : goal.fold-requires-clause-can
+fold-requires-clause-can c =
+    let read = ap (λ s. s.iter.rest.now) c.map.ensures.source ∙ ap (λ s. s.rest.now) c.rev.ensures.source ∙ c.iter.ensures.rest ∙ c.entries.ensures in (
+      tt,
+      serves_from_places (YieldsList-from_rev_slice _ read) (λ x q r. search rules) (λ x k here same.
+          let within : x.now.place < length c.args.places.now = rw same (All-get_or (λ y. y.place < length c.args.places.now) (contents c.args.shelf.now) k x.now here c.requires) in
+          search rules),
+    )
 
 pub returns : goal.returns
 returns c =
-    c.loop-j.invariant ∙ ap (λ xs. c.args.short - sum_by (held_in_place c.args.places.now c.args.day) xs)
-    (take_all c.loop-j.j (contents c.args.shelf.now) (omega (arith, c.loop-j-test.false, c.len-j-end.ensures)))
+    let places = c.args.places.now in
+    let day = c.args.day in
+    let by_turns : c.fold.result ≡ fold (λ a b. a - b) c.args.short (map (λ (x : Defender). held_on c.args.day (get_or c.args.places.now x.place unread)) (contents c.args.shelf.now)) = search (rules, chains) in
+    by_turns
+    ∙ taken_in_turn (held_in_place places day) (λ x. held_on day (get_or places x.place unread)) (contents c.args.shelf.now)
+    (All-weaker _ _ (λ x h. ap (held_on day) (get_or_default places x.place unread vacant h)) (contents c.args.shelf.now) c.requires) c.args.short

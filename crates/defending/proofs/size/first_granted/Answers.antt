@@ -1,17 +1,7 @@
-use Rattle.std.proofs.Common.{◌<◌, ◌≢◌, length, refl, ◌∙◌, arith, below_more}
-use Rattle.std.proofs.lemmas.List.{length-set, get_or-set_same, get_or-set_other}
+use Rattle.std.proofs.Common.{min, ap, ◌∙◌, rules, arith}
+use Rattle.defending.proofs.Mapped.{made_at}
 use Rattle.defending.proofs.size.first_granted.Goals as goal
 
-pub loop-k-init : goal.loop-k-init
-loop-k-init c = (refl, λ i h. absurd (let z : ⊥ = omega arith in z))
-
-pub loop-k-preserved : goal.loop-k-preserved
-loop-k-preserved c =
-    let granted = c.loop-k.granted in let k = c.loop-k.k in let x = c.min.result in
-    let here : k < length granted = omega (arith, c.loop-k.invariant.0, c.requires.term, c.loop-k-test.true) in (
-      length-set granted k x ∙ c.loop-k.invariant.0,
-      below_more _ _ (λ i h. let ne : i ≢ c.loop-k.k = omega arith in get_or-set_other granted k i x 0 ne ∙ c.loop-k.invariant.1 i h) (get_or-set_same granted k x 0 here ∙ c.min.ensures),
-    )
-
 pub returns : goal.returns
-returns c = λ k h. c.loop-k.invariant.1 k (omega (arith, c.loop-k-test.false))
+returns c = λ k h.
+    made_at _ _ (λ mw. min mw c.args.request.now.mw) (λ x y q called. search rules) _ _ _ c.map.ensures.items k (omega (arith, c.requires.term)) ∙ ap (λ mw. min mw c.args.request.now.mw) (c.free_by_day.ensures k h)

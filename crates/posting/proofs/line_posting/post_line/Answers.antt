@@ -41,14 +41,14 @@ returns-then-line-gt0 c =
     let eu : y.used ≡ d.used + 1 = second.used ∙ first.used in
     let long : length y.lines.now ≡ length d.lines.now = ap length el ∙ length-set d.lines.now d.used l in
     let written : (view y).lines ≡ ls = rw (el, eu) (line_stands _ c.requires.shown _ _ _ _ _ _ _ _ c.requires.may c.if-line-gt0.true) in
-    let amounts = second.amounts ∙ first.amounts in let preschedule = second.preschedule ∙ first.preschedule in
-    let days : (view y).days ≡ (view d).days = rw (amounts, preschedule) refl in
+    let posted : y.posted ≡ d.posted = second.posted ∙ first.posted in
+    let days : (view y).days ≡ (view d).days = rw posted refl in
     let room : y.used ≤ length y.lines.now = omega (arith, c.requires.may.roomy c.if-line-gt0.true, eu, long) in
     let frees : length y.free.now ≡ length d.free.now = ap length second.free ∙ (put_free_length _ _ _ _ ∙ (ap length first.free ∙ put_free_length _ _ _ _)) in
     record {
       shown = record {
         written = room;
-        each_day = frees ∙ (c.requires.shown.each_day ∙ sym (ap length amounts));
+        each_day = frees ∙ (c.requires.shown.each_day ∙ sym (ap (λ p. length p.amounts.now) posted));
         shown = subst (λ ms. Shown (balance ms) y.free.now y.places.now) (sym written) S;
       };
       view = same_view (view y) (with_lines (view d) ls) days long written es (second.clock ∙ first.clock) (second.top ∙ first.top);

@@ -12,22 +12,22 @@ use Rattle.preempting.specs.declared.giving.Giving.{Giving}
 use Rattle.preempting.specs.Giving.{Giveable, challenged_by}
 use Rattle.preempting.proofs.BegunVisits.{unneeded_gives_none, giveable_then, giving_read}
 use Rattle.preempting.proofs.Shortages.{entry_is, holds_in_term, visit_finds}
+use Rattle.moving.proofs.LedgerKeeps.{midway_in}
 use Rattle.preempting.proofs.challenging.begin_visit.Goals as goal
 
 pub returns-then-is_pending : goal.returns-then-is_pending
 returns-then-is_pending g c =
-    let d = c.args.desk.now in
-    let same = entry_is d c.requires.midway.showing c.args.request.now c.args.place c.requires.within unread c.requires.ready in
-    record { midway = c.requires.midway; begun = (refl, cond-true _ _ _ (ap (λ (e : Entry). is_pending e.standing.state) (sym same) ∙ sym c.if-is_pending.ensures)) }
+    let d = c.args.ledger.now.desk in
+    let same = entry_is d (midway_in c.args.ledger.now).showing c.args.request.now c.args.place c.requires.within unread c.requires.ready in
+    record { begun = (refl, cond-true _ _ _ (ap (λ (e : Entry). is_pending e.standing.state) (sym same) ∙ sym c.if-is_pending.ensures)) }
 
 pub returns-then-visit-eq0 : goal.returns-then-visit-eq0
 returns-then-visit-eq0 g c =
-    let d = c.args.desk.now in let r = c.args.request.now in let R = g.S.RuleSheet.rules c.args.sheet.now in
-    let same = entry_is d c.requires.midway.showing r c.args.place c.requires.within unread c.requires.ready in
-    let f = visit_finds d c.requires.midway.showing r c.args.place c.requires.within unread c.requires.ready c.args.short.now c.requires.short c.visit.result (c.visit.ensures.own_days (holds_in_term d c.requires.midway.showing r c.args.place c.requires.within unread c.requires.ready)) in
+    let d = c.args.ledger.now.desk in let r = c.args.request.now in let R = g.S.RuleSheet.rules c.args.sheet.now in
+    let same = entry_is d (midway_in c.args.ledger.now).showing r c.args.place c.requires.within unread c.requires.ready in
+    let f = visit_finds d (midway_in c.args.ledger.now).showing r c.args.place c.requires.within unread c.requires.ready c.args.short.now c.requires.short c.visit.result (c.visit.ensures.own_days (holds_in_term d (midway_in c.args.ledger.now).showing r c.args.place c.requires.within unread c.requires.ready)) in
     let none = not-true _ (sym f ∙ eq-eqb c.visit.result 0 c.if-visit-eq0.true) in
     record {
-      midway = c.requires.midway;
       begun = (
         refl,
         cond-false _ _ _ (ap (λ (e : Entry). is_pending e.standing.state) (sym same) ∙ (sym c.is_pending.ensures ∙ c.if-is_pending.false))
@@ -37,17 +37,16 @@ returns-then-visit-eq0 g c =
 
 pub returns-then-right : goal.returns-then-right
 returns-then-right g c =
-    let d = c.args.desk.now in let r = c.args.request.now in let R = g.S.RuleSheet.rules c.args.sheet.now in let p = c.args.place in let t = c.args.minute in
-    let same = entry_is d c.requires.midway.showing r p c.requires.within unread c.requires.ready in
+    let d = c.args.ledger.now.desk in let r = c.args.request.now in let R = g.S.RuleSheet.rules c.args.sheet.now in let p = c.args.place in let t = c.args.minute in
+    let same = entry_is d (midway_in c.args.ledger.now).showing r p c.requires.within unread c.requires.ready in
     let e = entry_at (view d).places p in
-    let f = visit_finds d c.requires.midway.showing r p c.requires.within unread c.requires.ready c.args.short.now c.requires.short c.visit.result (c.visit.ensures.own_days (holds_in_term d c.requires.midway.showing r p c.requires.within unread c.requires.ready)) in
+    let f = visit_finds d (midway_in c.args.ledger.now).showing r p c.requires.within unread c.requires.ready c.args.short.now c.requires.short c.visit.result (c.visit.ensures.own_days (holds_in_term d (midway_in c.args.ledger.now).showing r p c.requires.within unread c.requires.ready)) in
     let lt : p < length (view d).places = omega (arith, c.requires.within, length-map d.places.now entry_of) in
     let given = giving_read R t r c.args.challenger p (entry_of (place d.places.now p)) e same c.may_match-right.result c.may_match-right.ensures in
     let not_pending = ap (λ (x : Entry). is_pending x.standing.state) (sym same) ∙ (sym c.is_pending.ensures ∙ c.if-is_pending.false) in
     let needed = not-false _ (sym f ∙ ne_eqb c.visit.result 0 c.if-visit-eq0.false) in
-    let y = c.challenge.new.desk in let V = c.challenge.ensures.view in
+    let y = c.challenge.new.ledger.desk in let V = c.challenge.ensures.view in
     record {
-      midway = c.challenge.ensures.midway;
       begun = (
         given,
         not_pending,
@@ -60,17 +59,16 @@ returns-then-right g c =
 
 pub returns-else-right : goal.returns-else-right
 returns-else-right g c =
-    let d = c.args.desk.now in let r = c.args.request.now in let R = g.S.RuleSheet.rules c.args.sheet.now in let p = c.args.place in let t = c.args.minute in
-    let same = entry_is d c.requires.midway.showing r p c.requires.within unread c.requires.ready in
+    let d = c.args.ledger.now.desk in let r = c.args.request.now in let R = g.S.RuleSheet.rules c.args.sheet.now in let p = c.args.place in let t = c.args.minute in
+    let same = entry_is d (midway_in c.args.ledger.now).showing r p c.requires.within unread c.requires.ready in
     let e = entry_at (view d).places p in
-    let f = visit_finds d c.requires.midway.showing r p c.requires.within unread c.requires.ready c.args.short.now c.requires.short c.visit.result (c.visit.ensures.own_days (holds_in_term d c.requires.midway.showing r p c.requires.within unread c.requires.ready)) in
+    let f = visit_finds d (midway_in c.args.ledger.now).showing r p c.requires.within unread c.requires.ready c.args.short.now c.requires.short c.visit.result (c.visit.ensures.own_days (holds_in_term d (midway_in c.args.ledger.now).showing r p c.requires.within unread c.requires.ready)) in
     let lt : p < length (view d).places = omega (arith, c.requires.within, length-map d.places.now entry_of) in
     let given = giving_read R t r c.args.challenger p (entry_of (place d.places.now p)) e same c.may_match-right.result c.may_match-right.ensures in
     let not_pending = ap (λ (x : Entry). is_pending x.standing.state) (sym same) ∙ (sym c.is_pending.ensures ∙ c.if-is_pending.false) in
     let needed = not-false _ (sym f ∙ ne_eqb c.visit.result 0 c.if-visit-eq0.false) in
     let no_right : R.may_match r e.standing ≡ false = ap (λ (x : Entry). R.may_match r x.standing) (sym same) ∙ (sym c.may_match-right.ensures ∙ c.if-right.false) in
     record {
-      midway = c.requires.midway;
       begun = (
         given,
         not_pending,

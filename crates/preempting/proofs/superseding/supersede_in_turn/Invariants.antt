@@ -1,15 +1,18 @@
-use Rattle.std.proofs.Common.{◌≡◌, take}
+use Rattle.std.proofs.Common.{◌≡◌, length, take}
 use Rattle.shelf.specs.Contents.{contents}
 use Rattle.desk.specs.Desks.{view}
 use Rattle.posting.specs.Postable.{with_lines}
 use Rattle.defending.specs.LinedUp.{lined}
-use Rattle.moving.specs.Midway.{Midway}
+use Rattle.defending.proofs.ShelfReads.{GoesThrough}
 use Rattle.preempting.specs.Visits.{ShortShown, superseding}
 use Rattle.preempting.proofs.Folds.{visits}
 use Rattle.preempting.proofs.superseding.supersede_in_turn.Given as goal
 
-abbrev pub invariant-loop-j : goal.invariant-loop-j
-invariant-loop-j l =
-    let v = view l.initial.desk in
-    let ls = visits (superseding l.minute l.request) (take l.j (lined v.places (contents l.defenders))) v.lines in
-    Midway l.desk × (view l.desk ≡ with_lines v ls) × ShortShown l.request ls l.short
+-- the entries come in the shelf's order, and those that came were visited
+abbrev pub invariant-loop-one : goal.invariant-loop-one
+invariant-loop-one l =
+    let v = view l.initial.ledger.desk in
+    let ls = visits (superseding l.minute l.request) (take (length l.yielded) (lined v.places (contents l.defenders))) v.lines in
+    GoesThrough (contents l.defenders) l.initial.one-iterator
+    × (view l.ledger.desk ≡ with_lines v ls)
+    × ShortShown l.request ls l.short

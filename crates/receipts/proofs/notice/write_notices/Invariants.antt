@@ -1,10 +1,8 @@
--- Writing what the lines left will tell would complete the output, and there is room for it.
-use Rattle.std.proofs.Common.{◌≡◌, ◌+◌, ◌≤◌, [], length, take, drop}
+-- What is put is what the lines read so far tell.
+use Rattle.std.proofs.Common.{[], take}
 use Rattle.receipts.specs.Notices.{notices}
-use Rattle.receipts.specs.Output.{written}
+use Rattle.receipts.specs.Output.{Puts}
 use Rattle.receipts.proofs.notice.write_notices.Given as goal
 
 abbrev pub invariant-loop-i : goal.invariant-loop-i
-invariant-loop-i l =
-    (written l.at (notices (take l.i l.lines) (drop l.i l.lines)) l.out ≡ written 0 (notices [] l.lines) l.initial.out)
-    × (l.at + length (notices (take l.i l.lines) (drop l.i l.lines)) ≤ length l.out)
+invariant-loop-i l = Puts l.initial.out (notices [] (take l.i l.lines)) l.out

@@ -1,55 +1,64 @@
-use Rattle.std.proofs.Common.{◌≡◌, ℕ, ◌+◌, ltb, length, get_or, Ok, Err, Result, sym, refl, ap, ◌∙◌, arith}
-use Rattle.std.proofs.lemmas.Bool.{lt-ltb, cond-true}
-use Rattle.terms.specs.declared.refusal.Refusal.{Refusal}
-use Rattle.terms.specs.declared.refusal.Refusal.TheVariants.{DayNotPosted}
-use Rattle.journal.specs.Accounts.{flown, balance}
-use Rattle.desk.specs.declared.sums.Sums.{Sums}
-use Rattle.desk.specs.DaySums.{accounts_on}
+use Rattle.std.proofs.Common.{◌≡◌, ◌+◌, ◌-◌, ◌<◌, length, sum_by, get_or, ◌∙◌, arith, rules}
+use Rattle.std.proofs.lemmas.Bool.{lt-ltb}
+use Rattle.journal.specs.Accounts.{free, flown, balance}
 use Rattle.desk.specs.Desks.{view}
-use Rattle.desk.proofs.DeskSums.{held_is, aside_is, all_is, within_limit}
+use Rattle.desk.specs.Records.{held_on, aside_on}
+use Rattle.desk.proofs.DeskSums.{held_is, aside_is, all_is, held_within, aside_within}
 use Rattle.desk.proofs.SoundProp.{sound_of}
 use Rattle.desk.proofs.memory.Desk.sums.Goals as goal
 
-pub held_and_aside-held-requires : goal.held_and_aside-held-requires
-held_and_aside-held-requires c =
-    let d = c.args.self.now in let S = sound_of d c.requires in
-    record { held = omega (arith, all_is d S c.args.day, within_limit d S c.args.day); aside = omega (arith, all_is d S c.args.day, within_limit d S c.args.day) }
+pub bounds-self-day : goal.bounds-self-day
+bounds-self-day c =
+    let posted : c.args.day < length c.args.self.now.posted.amounts.now = search rules in
+    omega (arith, (sound_of c.args.self.now c.requires).each_day)
 
-pub bounds-self-index : goal.bounds-self-index
-bounds-self-index c = omega (arith, (sound_of c.args.self.now c.requires).each_day)
+pub sum-held-requires-clause-fits : goal.sum-held-requires-clause-fits
+sum-held-requires-clause-fits c =
+    let fits = held_within c.args.self.now (sound_of c.args.self.now c.requires) c.args.day in
+    search rules
 
--- free, held and aside as they were read, and flown by the journal, are what was posted
-in_all : (c : goal.After-flown-1) →
-    get_or c.args.self.now.free.now c.args.day 0 + c.held_and_aside-held.result.0 + c.held_and_aside-held.result.1 + balance (view c.args.self.now).lines flown c.args.day
-    ≡ get_or c.args.self.now.amounts.now c.args.day 0
-in_all c =
-    let d = c.args.self.now in let S = sound_of d c.requires in
-    omega (arith, S.shown.frees c.args.day (omega (arith, S.each_day, c.if-index-self.false)), all_is d S c.args.day, c.held_and_aside-held.ensures.held, c.held_and_aside-held.ensures.aside)
+pub sum-aside-requires-clause-fits : goal.sum-aside-requires-clause-fits
+sum-aside-requires-clause-fits c =
+    let fits = aside_within c.args.self.now (sound_of c.args.self.now c.requires) c.args.day in
+    search rules
 
-pub overflow_sub-flown : goal.overflow_sub-flown
-overflow_sub-flown c = omega (arith, in_all c)
+module _ (c : goal.After-sum-aside) where
+  posted : c.args.day < length c.args.self.now.posted.amounts.now
+  posted = search rules
 
-pub overflow_sub-flown-2 : goal.overflow_sub-flown-2
-overflow_sub-flown-2 c = omega (arith, in_all c)
+  held_read : c.sum-held.result ≡ sum_by (held_on c.args.day) c.args.self.now.places.now
+  held_read = search rules
 
-pub overflow_sub-flown-3 : goal.overflow_sub-flown-3
-overflow_sub-flown-3 c = omega (arith, in_all c)
+  aside_read : c.sum-aside.result ≡ sum_by (aside_on c.args.day) c.args.self.now.places.now
+  aside_read = search rules
 
-sums_alike : (f f' h h' a a' w w' : ℕ) → f ≡ f' → h ≡ h' → a ≡ a' → w ≡ w' →
-    ◌≡◌ {A = Sums} (record { free = f; held = h; aside = a; flown = w }) (record { free = f'; held = h'; aside = a'; flown = w' })
-sums_alike f f' h h' a a' w w' p q r s = rw (p, q, r, s) refl
+  amount_read : c.in_ok-amount.field-0.now ≡ get_or c.args.self.now.posted.amounts.now c.args.day 0
+  amount_read = search rules
 
-pub returns : goal.returns
-returns c =
+  free_read : get_or c.args.self.now.free.now c.args.day 0 ≡ balance (view c.args.self.now).lines free c.args.day
+  free_read = let S = sound_of c.args.self.now c.requires in S.shown.frees c.args.day (omega (arith, S.each_day, posted))
+
+  -- what was read, and flown by the journal, are what was posted
+  in_all : get_or c.args.self.now.free.now c.args.day 0 + c.sum-held.result + c.sum-aside.result + balance (view c.args.self.now).lines flown c.args.day ≡ c.in_ok-amount.field-0.now
+  in_all = omega (arith, free_read, held_read, aside_read, amount_read, all_is c.args.self.now (sound_of c.args.self.now c.requires) c.args.day)
+
+pub overflow_sub-result : goal.overflow_sub-result
+overflow_sub-result c = omega (arith, in_all c)
+
+pub overflow_sub-result-2 : goal.overflow_sub-result-2
+overflow_sub-result-2 c = omega (arith, in_all c)
+
+pub overflow_sub-result-3 : goal.overflow_sub-result-3
+overflow_sub-result-3 c = omega (arith, in_all c)
+
+pub returns-clause-value : goal.returns-clause-value
+returns-clause-value c =
     let d = c.args.self.now in let S = sound_of d c.requires in let day = c.args.day in
-    let ok : Sums → Result Sums Refusal = λ s. Ok s in
-    record {
-      value =
-          ap ok (sums_alike _ _ _ _ _ _ _ _
-          (S.shown.frees day (omega (arith, S.each_day, c.if-index-self.false)))
-          (c.held_and_aside-held.ensures.held ∙ held_is d S day)
-          (c.held_and_aside-held.ensures.aside ∙ aside_is d S day)
-          (omega (arith, in_all c)))
-          ∙ sym (cond-true (ltb day (length (view d).days.amounts)) (ok (accounts_on (view d) day)) (Err DayNotPosted) (lt-ltb day (length (view d).days.amounts) c.if-index-self.false));
-      whole = omega (arith, in_all c);
-    }
+    let f = free_read c in
+    let h = held_read c ∙ held_is d S day in
+    let a = aside_read c ∙ aside_is d S day in
+    let w : c.in_ok-amount.field-0.now - get_or d.free.now day 0 - c.sum-held.result - c.sum-aside.result ≡ balance (view d).lines flown day = omega (arith, in_all c) in
+    rw (lt-ltb day (length d.posted.amounts.now) (posted c)) cc
+
+pub returns-clause-whole : goal.returns-clause-whole
+returns-clause-whole c = omega (arith, in_all c, amount_read c)
