@@ -4,7 +4,7 @@
 use terms::words::State;
 
 // The record's AREF and new state, and the lines that the call wrote: the first by its number from 0, and how many.
-#[derive(Clone, Copy)]
+#[derive(Clone, Copy, Debug, PartialEq, Eq)]
 pub struct Done {
     pub aref: u32,
     pub state: State,

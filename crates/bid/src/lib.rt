@@ -96,8 +96,7 @@ impl RuleSheet for Bid {
 
     fn in_time(&self, challenger: &Request, minute: u32, posted: &Posted) -> bool {
         let clock = minute_of_day(minute);
-        clock >= 360
-            && clock <= 540
+        (360..=540).contains(&clock)
             && not_past(self.counts_until(challenger.start, posted), minute)
     }
 

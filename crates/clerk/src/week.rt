@@ -6,7 +6,7 @@ use firm::Firm;
 use std::io;
 use terms::posted::Posted;
 use terms::request::{Request, RequestForm, Standing};
-use terms::words::State;
+use terms::words::{Kind, Product, State};
 
 const NOW: u32 = 1_500;
 
@@ -15,15 +15,15 @@ const AMOUNTS: [u32; 14] = [150; 14];
 const PRESCHEDULE: [u32; 14] = [0, 0, 1, 2, 3, 4, 5, 6, 7, 8, 9, 10, 11, 12];
 
 // A form for daily point-to-point service from day 7 on.
-fn daily_form(aref: u32, length: u32, mw: u32, preconfirmed: u32) -> RequestForm {
+fn daily_form(aref: u32, length: u32, mw: u32, preconfirmed: bool) -> RequestForm {
     RequestForm {
         aref,
-        kind: 1,
-        product: 1,
+        kind: u32::from(Kind::PointToPoint),
+        product: u32::from(Product::Daily),
         start: 7,
         length,
         mw,
-        preconfirmed,
+        preconfirmed: u32::from(preconfirmed),
         price: 5_000,
     }
 }
@@ -99,10 +99,10 @@ fn tell_turns(rt: &impl Print, challenger: &Request, in_turn: &[Standing]) -> io
 
 // Tells the week from beginning to end.
 pub(crate) fn tell(rt: &impl Print) -> anyhow::Result<()> {
-    let holder = daily_form(101, 3, 100, 0);
-    let asker = daily_form(102, 3, 50, 0);
-    let challenger = daily_form(103, 5, 50, 1);
-    let too_long = daily_form(104, 32, 50, 1);
+    let holder = daily_form(101, 3, 100, false);
+    let asker = daily_form(102, 3, 50, false);
+    let challenger = daily_form(103, 5, 50, true);
+    let too_long = daily_form(104, 32, 50, true);
     println!(rt;
         "The second owner's week: a line of 150 MW with firm service, full on days 7 to 9."
     )?;

@@ -22,6 +22,7 @@ use moving::ledger::Ledger;
 use posting::sides::Side;
 use restating::{holds_nothing, restate};
 use sheets::RuleSheet;
+use terms::checked::MOST_MW;
 use terms::refusal::Refusal;
 use terms::words::State;
 
@@ -50,7 +51,7 @@ fn lose(ledger: &mut Ledger, minute: u32, i: usize)
         b: against,
         giver: Side::Aside(i),
         taker: Side::Held(j),
-        most: 20_000,
+        most: MOST_MW,
     };
     ledger.move_by_day(all, request.start, request.length);
 }

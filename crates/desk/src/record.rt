@@ -10,7 +10,7 @@ pub const MOST_DAYS: usize = 31;
 
 // Its standing, the minute at which it falls due, the challenger against whom its match is open, and the MW that it
 // holds and that are set aside of it, by day from its start on.
-#[derive(Clone, Copy)]
+#[derive(Clone, Copy, Debug, PartialEq, Eq)]
 pub struct Record {
     pub standing: Standing,
     pub due: u32,

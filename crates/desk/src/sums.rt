@@ -9,7 +9,7 @@ use crate::memory::Desk;
 use terms::refusal::Refusal;
 
 // The MW of a day: what is free, what records hold, what is set aside, what has flown.
-#[derive(Clone, Copy)]
+#[derive(Clone, Copy, Debug, PartialEq, Eq)]
 pub struct Sums {
     pub free: u32,
     pub held: u32,

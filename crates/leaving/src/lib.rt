@@ -16,6 +16,7 @@ use moving::Move;
 use moving::ledger::Ledger;
 use posting::sides::Side;
 use restating::restate;
+use terms::checked::MOST_MW;
 use terms::refusal::Refusal;
 use terms::words::State;
 
@@ -48,7 +49,7 @@ fn leave(
         b: 0,
         giver: Side::Held(i),
         taker,
-        most: 20_000,
+        most: MOST_MW,
     };
     ledger.move_by_day(all, request.start, request.length);
     restate(ledger, i, State::Gone, due);

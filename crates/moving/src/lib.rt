@@ -10,7 +10,7 @@ use journal::line::LineKind;
 use posting::sides::Side;
 
 // Lines of one kind between a and b, from one side to another, of at most so many MW a day.
-#[derive(Clone, Copy)]
+#[derive(Clone, Copy, Debug, PartialEq, Eq)]
 pub struct Move {
     pub minute: u32,
     pub kind: LineKind,

@@ -6,6 +6,7 @@ mod tests {
     use book::Book;
     use desk::memory::Memory;
     use desk::record::Record;
+    use desk::sums::Sums;
     use firm::Firm;
     use journal::line::{Line, LineKind};
     use std::process::Abort;
@@ -66,16 +67,17 @@ mod tests {
         let book = Book::open(Firm, memory);
         assert_eq!(rt; book.journal().len(), if mw > 0 { posted } else { 0 });
         for day in 0..402 {
-            let sums = book
-                .sums(day)
-                .map(|sums| [sums.free, sums.held, sums.aside, sums.flown])
-                .map_err(u32::from);
             let expected = if (day as usize) < posted {
-                Ok([mw, 0, 0, 0])
+                Ok(Sums {
+                    free: mw,
+                    held: 0,
+                    aside: 0,
+                    flown: 0,
+                })
             } else {
                 Err(23)
             };
-            assert_eq!(rt; sums, expected, "on day {day}");
+            assert_eq!(rt; book.sums(day).map_err(u32::from), expected, "on day {day}");
         }
     }
 

@@ -14,6 +14,7 @@ use moving::ledger::Ledger;
 use posting::sides::Side;
 use shelf::Shelf;
 use shelf::defender::Defender;
+use terms::checked::MOST_MW;
 use terms::request::Request;
 
 // Supersedes the record in a place, if it is pending and holds MW on a day that is short.
@@ -47,7 +48,7 @@ pub fn supersede_if_needed(
         b: request.aref,
         giver: Side::Held(place),
         taker: Side::Free,
-        most: 20_000,
+        most: MOST_MW,
     };
     ledger.move_by_day(
         superseded,

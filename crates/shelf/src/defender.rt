@@ -7,7 +7,7 @@ use sheets::RuleSheet;
 use terms::request::Standing;
 
 // A record that may give way, with the place where it stands.
-#[derive(Clone, Copy)]
+#[derive(Clone, Copy, Debug, PartialEq, Eq)]
 pub struct Defender {
     pub standing: Standing,
     pub place: usize,

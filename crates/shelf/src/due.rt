@@ -5,7 +5,7 @@ ghost use Rattle.std.proofs.Common.{rules};
 use crate::order::Order;
 
 // An item that falls due, with the AREF of its record and the place where the record stands.
-#[derive(Clone, Copy)]
+#[derive(Clone, Copy, Debug, PartialEq, Eq)]
 pub struct Due {
     pub minute: u32,
     pub aref: u32,

@@ -7,26 +7,11 @@ use Rattle.desk.specs.Desks.{view}
 use Rattle.desk.specs.Soundness.{Shown}
 use Rattle.posting.specs.Postable.{with_lines}
 use Rattle.posting.proofs.TwoPuts.{put_free_length}
-use Rattle.posting.proofs.OneLine.{reach_giver, has_it, reach_taker', small', shown', entries', line_stands, none_posted, same_view}
+use Rattle.posting.proofs.OneLine.{small', shown', entries', line_stands, none_posted, same_view}
 use Rattle.posting.proofs.line_posting.post_line.Goals as goal
-
-pub standing_in-requires : goal.standing_in-requires
-standing_in-requires c = reach_giver _ c.requires.shown _ _ _ _ _ _ _ _ c.requires.may c.if-line-gt0.true
-
-pub overflow_sub-left : goal.overflow_sub-left
-overflow_sub-left c = omega (arith, c.standing_in.ensures, has_it _ c.requires.shown _ _ _ _ _ _ _ _ c.requires.may c.if-line-gt0.true)
-
-pub put-requires : goal.put-requires
-put-requires c = reach_giver _ c.requires.shown _ _ _ _ _ _ _ _ c.requires.may c.if-line-gt0.true
-
-pub standing_in-requires-then-line-gt0 : goal.standing_in-requires-then-line-gt0
-standing_in-requires-then-line-gt0 c = reach_taker' _ c.requires.shown _ _ _ _ _ _ _ _ c.requires.may c.if-line-gt0.true c.standing_in.result _ _ c.standing_in.ensures c.put.ensures.free c.put.ensures.places
 
 pub overflow_add-more : goal.overflow_add-more
 overflow_add-more c = let s = small' _ c.requires.shown _ _ _ _ _ _ _ _ c.requires.may c.if-line-gt0.true c.standing_in.result _ _ c.standing_in.ensures c.put.ensures.free c.put.ensures.places in omega (arith, c.standing_in-then-line-gt0.ensures)
-
-pub put-requires-then-line-gt0 : goal.put-requires-then-line-gt0
-put-requires-then-line-gt0 c = reach_taker' _ c.requires.shown _ _ _ _ _ _ _ _ c.requires.may c.if-line-gt0.true c.standing_in.result _ _ c.standing_in.ensures c.put.ensures.free c.put.ensures.places
 
 pub returns-then-line-gt0 : goal.returns-then-line-gt0
 returns-then-line-gt0 c =
