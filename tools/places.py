@@ -16,7 +16,7 @@ from collections import defaultdict
 LINES = {
     "options": {
         "hands an Option or a Result on by hand": r"Err\((\w+)\) => (return )?Err\(\1\)|\breturn Err\(refusal\)|None => (None|0|Err\(.*\)),$|\bif let Some\(\w+\) = \w+\.at\(",
-        "a flag that is a field or a parameter": r"^\s+(pub )?\w+: bool,$|\(.*\b\w+: bool\b.*\)|-> bool\s*$.*\bput\b|fn put<.*-> bool",
+        "a flag that is a field or a parameter": r"^\s+(pub )?\w+: bool,$|\(.*\b\w+: bool\b.*\)|fn put<.*-> bool",
         "a number for a kind or a refusal": r"\b(kind|product|preconfirmed): u32|Result<\w+, u32>|\[\[u\w+; [79]\]|Err\(\d+\)|\(u32, u32, u32\)|fn outcome",
     },
     "loops": {
