@@ -36,10 +36,10 @@ fn closed_state(ledger: &Ledger, j: usize) -> State
     requires term { Termed (view ledger.now.desk).days (slice_index_or (view ledger.now.desk).places j nobody) }
     ensures { result ≡ closed_state (view ledger.now.desk).lines (slice_index_or (view ledger.now.desk).places j nobody) }
 {
-    if holds_whole(ledger, j) {
+    if holds_whole(&ledger.desk, j) {
         return State::Confirmed;
     }
-    if holds_nothing(ledger, j) {
+    if holds_nothing(&ledger.desk, j) {
         return State::Gone;
     }
     State::Offered

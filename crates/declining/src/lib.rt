@@ -63,7 +63,7 @@ fn left_as(ledger: &Ledger, i: usize) -> State
     requires term { Termed (view ledger.now.desk).days (slice_index_or (view ledger.now.desk).places i nobody) }
     ensures { result ≡ left_as (view ledger.now.desk).lines (slice_index_or (view ledger.now.desk).places i nobody) }
 {
-    if holds_nothing(ledger, i) {
+    if holds_nothing(&ledger.desk, i) {
         return State::Gone;
     }
     State::Confirmed

@@ -4,7 +4,6 @@ pub mod ShownInLine
 pub mod MeetingADay
 pub mod BusyDays
 pub mod DayByDay
-pub mod Mapped
 pub mod VisitDays
 pub mod CountingLines
 pub mod CountingInLine

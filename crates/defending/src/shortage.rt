@@ -8,7 +8,7 @@ use desk::memory::Desk;
 use desk::record::{MOST_DAYS, Record};
 use terms::request::Request;
 
-// What is free, by day from the request's start on; past its term the amounts say nothing.
+// What is free, by day from the request's start on; 0 past its term.
 pub(crate) fn free_by_day(desk: &Desk, request: &Request) -> [u32; MOST_DAYS]
     requires offered { request.now.start + request.now.length ≤ length desk.now.free.now }
     requires term { request.now.length ≤ 31 }
@@ -20,13 +20,17 @@ pub(crate) fn free_by_day(desk: &Desk, request: &Request) -> [u32; MOST_DAYS]
     free
 }
 
-// What the MW are above what is free, by day from the request's start on.
+// What the MW are above what is free, by day from the request's start on; 0 past its term.
 pub fn first_short(desk: &Desk, request: &Request) -> [u32; MOST_DAYS]
     requires offered { request.now.start + request.now.length ≤ length desk.now.free.now }
     requires term { request.now.length ≤ 31 }
     ensures { (k : ℕ) → k < request.now.length → slice_index result k ≡ request.now.mw - slice_index desk.now.free.now (request.now.start + k) }
 {
-    free_by_day(desk, request).map(|free| request.mw.saturating_sub(free))
+    let mut short = free_by_day(desk, request);
+    for mw in short[..request.length as usize].iter_mut() {
+        *mw = request.mw.saturating_sub(*mw);
+    }
+    short
 }
 
 // Takes what a record holds off what is short on each day of the request's term; answers on how many days it took

@@ -29,7 +29,11 @@ fn first_granted(desk: &Desk, request: &Request) -> [u32; MOST_DAYS]
     requires term { request.now.length ≤ 31 }
     ensures { (k : ℕ) → k < request.now.length → slice_index result k ≡ min (slice_index desk.now.free.now (request.now.start + k)) request.now.mw }
 {
-    free_by_day(desk, request).map(|free| free.min(request.mw))
+    let mut granted = free_by_day(desk, request);
+    for mw in granted[..request.length as usize].iter_mut() {
+        *mw = (*mw).min(request.mw);
+    }
+    granted
 }
 
 // What is granted up to the MW once all that a record holds is free too.

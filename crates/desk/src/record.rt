@@ -65,8 +65,9 @@ impl Record {
 fn amount_on(amounts: &[u32; MOST_DAYS], start: u32, day: u32) -> u32
     ensures { result ≡ amount_on day start amounts.now }
 {
-    day.checked_sub(start)
-        .and_then(|past| amounts.get(past as usize))
-        .copied()
-        .unwrap_or(0)
+    if day < start {
+        return 0;
+    }
+    let past = (day - start) as usize;
+    amounts.get(past).copied().unwrap_or(0)
 }

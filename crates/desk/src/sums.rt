@@ -1,11 +1,13 @@
 // The four sums of a day.
-ghost use Rattle.std.specs.Prelude.{◌≡◌};
+ghost use Rattle.std.specs.Prelude.{◌≡◌, ◌≤◌, sum_by};
 ghost use Rattle.desk.specs.Desks.{view};
 ghost use Rattle.desk.specs.DaySums.{sums_of, ComeTo};
+ghost use Rattle.desk.specs.Records.{held_on, aside_on};
 ghost use Rattle.desk.specs.Soundness.{Sound};
 ghost use Rattle.law.specs.View.{posted_on};
 
 use crate::memory::Desk;
+use crate::record::Record;
 use terms::refusal::Refusal;
 
 // The MW of a day: what is free, what records hold, what is set aside, what has flown.
@@ -15,6 +17,23 @@ pub struct Sums {
     pub held: u32,
     pub aside: u32,
     pub flown: u32,
+}
+
+// What all records hold on a day, and what is set aside of them. Records are long, so both are added up in one pass; two
+// chains of sums take twice the time.
+fn held_and_aside(places: &[Record], day: u32) -> (u32, u32)
+    requires held { sum_by (held_on day) places.now ≤ 20000 }
+    requires aside { sum_by (aside_on day) places.now ≤ 20000 }
+    ensures held { result.0 ≡ sum_by (held_on day) places.now }
+    ensures aside { result.1 ≡ sum_by (aside_on day) places.now }
+{
+    let mut held = 0;
+    let mut aside = 0;
+    for one in places {
+        held += one.held_on(day);
+        aside += one.aside_on(day);
+    }
+    (held, aside)
 }
 
 impl Desk<'_> {
@@ -30,8 +49,7 @@ impl Desk<'_> {
             .get(day as usize)
             .ok_or(Refusal::DayNotPosted)?;
         let free = self.free[day as usize];
-        let held: u32 = self.places.iter().map(|one| one.held_on(day)).sum();
-        let aside: u32 = self.places.iter().map(|one| one.aside_on(day)).sum();
+        let (held, aside) = held_and_aside(self.places, day);
         Ok(Sums {
             free,
             held,

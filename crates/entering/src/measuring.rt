@@ -4,10 +4,10 @@ ghost use Rattle.std.specs.List.{list_all};
 ghost use Rattle.desk.specs.Desks.{view};
 ghost use Rattle.law.specs.Posting.{each_day, free_on};
 ghost use Rattle.law.specs.Preemption.{wanted};
+ghost use Rattle.moving.specs.Midway.{Midway};
 
 use desk::memory::Desk;
 use moving::each_reaches;
-use moving::ledger::Ledger;
 use terms::request::Request;
 
 // What is free, day by day of a request's term.
@@ -27,17 +27,19 @@ fn all_zero(amounts: &[u32]) -> bool
 }
 
 // Does free cover the MW on each day?
-pub fn free_covers(ledger: &Ledger, request: &Request) -> bool
-    requires inside { request.now.start + request.now.length ≤ length (view ledger.now.desk).days.amounts }
-    ensures { result ≡ each_day (λ day. nat_le (wanted request.now day) (free_on (view ledger.now.desk).lines day)) request.now.start request.now.length }
+pub fn free_covers(desk: &Desk, request: &Request) -> bool
+    requires midway { Midway desk.now }
+    requires inside { request.now.start + request.now.length ≤ length (view desk.now).days.amounts }
+    ensures { result ≡ each_day (λ day. nat_le (wanted request.now day) (free_on (view desk.now).lines day)) request.now.start request.now.length }
 {
-    each_reaches(free_in_term(&ledger.desk, request), request.mw)
+    each_reaches(free_in_term(desk, request), request.mw)
 }
 
 // Is nothing free on any day?
-pub fn nothing_free(ledger: &Ledger, request: &Request) -> bool
-    requires inside { request.now.start + request.now.length ≤ length (view ledger.now.desk).days.amounts }
-    ensures { result ≡ each_day (λ day. nat_eq (free_on (view ledger.now.desk).lines day) 0) request.now.start request.now.length }
+pub fn nothing_free(desk: &Desk, request: &Request) -> bool
+    requires midway { Midway desk.now }
+    requires inside { request.now.start + request.now.length ≤ length (view desk.now).days.amounts }
+    ensures { result ≡ each_day (λ day. nat_eq (free_on (view desk.now).lines day) 0) request.now.start request.now.length }
 {
-    all_zero(free_in_term(&ledger.desk, request))
+    all_zero(free_in_term(desk, request))
 }

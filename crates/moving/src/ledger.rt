@@ -12,7 +12,7 @@ ghost use Rattle.posting.specs.Sides.{account};
 ghost use Rattle.moving.specs.Midway.{Midway, with_places};
 ghost use Rattle.moving.specs.Moves.{moved, Movable, Along};
 
-use crate::Move;
+use crate::{Move, count_busy};
 use desk::memory::Desk;
 use desk::record::Record;
 use journal::line::{Line, LineKind};
@@ -53,13 +53,7 @@ impl Ledger<'_> {
         ensures count { result ≡ busy_days (balance (view self.now.desk).lines (account self.now.desk.places.now side)) start days }
         ensures few { result ≤ days }
     {
-        let mut count = 0;
-        for day in start..start + days {
-            if standing_in(&self.desk, side, day) > 0 {
-                count += 1;
-            }
-        }
-        count
+        count_busy(&self.desk, side, start, days)
     }
 
     // Writes a record whole into a place.

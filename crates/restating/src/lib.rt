@@ -7,12 +7,13 @@ ghost use Rattle.law.specs.Keeps.{Termed};
 ghost use Rattle.law.specs.Places.{due_at, in_state};
 ghost use Rattle.law.specs.Preemption.{empty};
 ghost use Rattle.law.specs.View.{living, nobody};
-ghost use Rattle.moving.specs.Midway.{with_places};
+ghost use Rattle.moving.specs.Midway.{Midway, with_places};
 ghost use Rattle.restating.specs.Restatement.{Restated, whole};
 
+use desk::memory::Desk;
 use desk::record::{MOST_DAYS, Record};
-use moving::each_reaches;
 use moving::ledger::Ledger;
+use moving::{count_busy, each_reaches};
 use posting::sides::Side;
 use terms::words::State;
 
@@ -42,24 +43,26 @@ pub fn restate(ledger: &mut Ledger, i: usize, state: State, due: u32)
 }
 
 // Does the record in a place hold nothing on any day of its term?
-pub fn holds_nothing(ledger: &Ledger, i: usize) -> bool
-    requires within { i < length ledger.now.desk.places.now }
-    requires lives { living (slice_index_or (view ledger.now.desk).places i nobody) ≡ true }
-    requires term { Termed (view ledger.now.desk).days (slice_index_or (view ledger.now.desk).places i nobody) }
-    ensures { result ≡ empty (view ledger.now.desk).lines (slice_index_or (view ledger.now.desk).places i nobody) }
+pub fn holds_nothing(desk: &Desk, i: usize) -> bool
+    requires midway { Midway desk.now }
+    requires within { i < length desk.now.places.now }
+    requires lives { living (slice_index_or (view desk.now).places i nobody) ≡ true }
+    requires term { Termed (view desk.now).days (slice_index_or (view desk.now).places i nobody) }
+    ensures { result ≡ empty (view desk.now).lines (slice_index_or (view desk.now).places i nobody) }
 {
-    let request = ledger.desk.places[i].standing.request;
-    ledger.count_busy(Side::Held(i), request.start, request.length) == 0
+    let request = desk.places[i].standing.request;
+    count_busy(desk, Side::Held(i), request.start, request.length) == 0
 }
 
 // Does the record in a place hold its MW on each day of its term?
-pub fn holds_whole(ledger: &Ledger, i: usize) -> bool
-    requires within { i < length ledger.now.desk.places.now }
-    requires lives { living (slice_index_or (view ledger.now.desk).places i nobody) ≡ true }
-    requires term { Termed (view ledger.now.desk).days (slice_index_or (view ledger.now.desk).places i nobody) }
-    ensures { result ≡ whole (view ledger.now.desk).lines (slice_index_or (view ledger.now.desk).places i nobody) }
+pub fn holds_whole(desk: &Desk, i: usize) -> bool
+    requires midway { Midway desk.now }
+    requires within { i < length desk.now.places.now }
+    requires lives { living (slice_index_or (view desk.now).places i nobody) ≡ true }
+    requires term { Termed (view desk.now).days (slice_index_or (view desk.now).places i nobody) }
+    ensures { result ≡ whole (view desk.now).lines (slice_index_or (view desk.now).places i nobody) }
 {
-    let places = &*ledger.desk.places;
+    let places = &*desk.places;
     let one = &places[i];
     let days = one.standing.request.length as usize;
     each_reaches(&one.held[..days], one.standing.request.mw)

@@ -33,6 +33,7 @@ impl<'a, T: Copy> Shelf<'a, T> {
     pub fn at(&self, others: usize) -> Option<T>
         ensures { result ≡ slice_get (contents self.now) others }
     {
-        self.entries().iter().rev().nth(others).copied()
+        let slot = self.used.checked_sub(1)?.checked_sub(others)?;
+        self.entries().get(slot).copied()
     }
 }

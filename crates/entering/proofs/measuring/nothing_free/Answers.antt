@@ -4,15 +4,14 @@ use Rattle.std.proofs.lemmas.List.{length-drop, get_or-drop}
 use Rattle.law.specs.Posting.{free_on}
 use Rattle.desk.specs.Desks.{view}
 use Rattle.moving.proofs.EachDay.{each_of_amounts}
-use Rattle.moving.proofs.LedgerKeeps.{midway_in}
 use Rattle.entering.proofs.measuring.nothing_free.Goals as goal
 
 pub returns : goal.returns
 returns c =
-    let d = c.args.ledger.now.desk in
+    let d = c.args.desk.now in
     let r = c.args.request.now in
     let f = c.free_in_term.ensures in
-    let shown = (midway_in c.args.ledger.now).showing in
+    let shown = c.requires.midway.showing in
     let inside : r.start + r.length ≤ length d.free.now = omega (arith, shown.each_day, c.requires.inside) in
     c.all_zero.ensures ∙ ap (list_all (λ mw. eqb mw 0)) f
     ∙ sym (each_of_amounts (λ day. eqb (free_on (view d).lines day) 0) (λ mw. eqb mw 0) (drop r.start d.free.now) r.start r.length

@@ -12,25 +12,20 @@ bounds-self-day c =
     let posted : c.args.day < length c.args.self.now.posted.amounts.now = search rules in
     omega (arith, (sound_of c.args.self.now c.requires).each_day)
 
-pub sum-held-requires-clause-fits : goal.sum-held-requires-clause-fits
-sum-held-requires-clause-fits c =
-    let fits = held_within c.args.self.now (sound_of c.args.self.now c.requires) c.args.day in
-    search rules
+pub held_and_aside-held-requires : goal.held_and_aside-held-requires
+held_and_aside-held-requires c =
+    let d = c.args.self.now in let S = sound_of d c.requires in
+    record { held = held_within d S c.args.day; aside = aside_within d S c.args.day }
 
-pub sum-aside-requires-clause-fits : goal.sum-aside-requires-clause-fits
-sum-aside-requires-clause-fits c =
-    let fits = aside_within c.args.self.now (sound_of c.args.self.now c.requires) c.args.day in
-    search rules
-
-module _ (c : goal.After-sum-aside) where
+module _ (c : goal.After-held_and_aside-held) where
   posted : c.args.day < length c.args.self.now.posted.amounts.now
   posted = search rules
 
-  held_read : c.sum-held.result ≡ sum_by (held_on c.args.day) c.args.self.now.places.now
-  held_read = search rules
+  held_read : c.held_and_aside-held.result.0 ≡ sum_by (held_on c.args.day) c.args.self.now.places.now
+  held_read = c.held_and_aside-held.ensures.held
 
-  aside_read : c.sum-aside.result ≡ sum_by (aside_on c.args.day) c.args.self.now.places.now
-  aside_read = search rules
+  aside_read : c.held_and_aside-held.result.1 ≡ sum_by (aside_on c.args.day) c.args.self.now.places.now
+  aside_read = c.held_and_aside-held.ensures.aside
 
   amount_read : c.in_ok-amount.field-0.now ≡ get_or c.args.self.now.posted.amounts.now c.args.day 0
   amount_read = search rules
@@ -39,7 +34,7 @@ module _ (c : goal.After-sum-aside) where
   free_read = let S = sound_of c.args.self.now c.requires in S.shown.frees c.args.day (omega (arith, S.each_day, posted))
 
   -- what was read, and flown by the journal, are what was posted
-  in_all : get_or c.args.self.now.free.now c.args.day 0 + c.sum-held.result + c.sum-aside.result + balance (view c.args.self.now).lines flown c.args.day ≡ c.in_ok-amount.field-0.now
+  in_all : get_or c.args.self.now.free.now c.args.day 0 + c.held_and_aside-held.result.0 + c.held_and_aside-held.result.1 + balance (view c.args.self.now).lines flown c.args.day ≡ c.in_ok-amount.field-0.now
   in_all = omega (arith, free_read, held_read, aside_read, amount_read, all_is c.args.self.now (sound_of c.args.self.now c.requires) c.args.day)
 
 pub overflow_sub-result : goal.overflow_sub-result
@@ -57,7 +52,7 @@ returns-clause-value c =
     let f = free_read c in
     let h = held_read c ∙ held_is d S day in
     let a = aside_read c ∙ aside_is d S day in
-    let w : c.in_ok-amount.field-0.now - get_or d.free.now day 0 - c.sum-held.result - c.sum-aside.result ≡ balance (view d).lines flown day = omega (arith, in_all c) in
+    let w : c.in_ok-amount.field-0.now - get_or d.free.now day 0 - c.held_and_aside-held.result.0 - c.held_and_aside-held.result.1 ≡ balance (view d).lines flown day = omega (arith, in_all c) in
     rw (lt-ltb day (length d.posted.amounts.now) (posted c)) cc
 
 pub returns-clause-whole : goal.returns-clause-whole
