@@ -104,6 +104,10 @@ fn rank(one: &Standing) -> (bool, u32, bool, Reverse<u32>, Reverse<u32>)
 pub fn firm_turn(one: &Standing, other: &Standing) -> bool
     ensures { result ≡ turn_by firm_order one.now other.now }
 {
+    // many pairs differ in this already, and then nothing else has to be read
+    if one.state.is_pending() != other.state.is_pending() {
+        return one.state.is_pending();
+    }
     rank(one) < rank(other)
 }
 

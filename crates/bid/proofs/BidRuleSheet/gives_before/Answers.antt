@@ -24,7 +24,7 @@ pub returns : goal.returns
 returns c =
     let one = c.rank.ensures in
     let other = c.rank-2.ensures in
-    rw c.lt.ensures
+    rw c.lt-2.ensures
     (rw one.pending (rw one.product (rw one.length (rw one.committed (rw one.price (rw one.queued (rw one.aref
     (rw other.pending (rw other.product (rw other.length (rw other.committed (rw other.price (rw other.queued (rw other.aref
     (ranks_compare c.args.one.now c.args.other.now _ (search rules))))))))))))))))
