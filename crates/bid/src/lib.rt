@@ -87,7 +87,7 @@ impl RuleSheet for Bid {
 
     // Pending first, then the lower product, length, commitment and price, the later queue minute, the higher AREF.
     fn gives_before(&self, one: &Standing, other: &Standing) -> bool {
-        // most pairs differ in one of these already, and then nothing else has to be read
+        // many pairs differ in one of these already, and then nothing else has to be read
         if one.state.is_pending() != other.state.is_pending() {
             return one.state.is_pending();
         }
